@@ -1,0 +1,206 @@
+-- Laws of sums, largest values and counts over the numbers below n. Assumes nothing.
+use Prim.Native.Nat.{ℕ, zero, suc, _+_, _-_, _*_, max, _≤_, _<_}
+use mathlib.Core.Path.{_≡_, refl, ap, sym, _∙_, subst, fun-ext}
+use mathlib.Core.Bool.{Bool, true, false, _&&_, not}
+use native.Mathlib.Omega.{arith}
+use native.Mathlib.Nat.{add-zero, add-suc}
+use lib.Dec.{eqb, ltb}
+use borrow.Author.Tests.{eq-eqb, ne-eqb, lt-ltb, le-ltb}
+use Rattle.counting.specs.Sum.{given, without, sum, largest, count}
+use Rattle.counting.proofs.Cases.{by-bool, by-eq, by-le, not-both}
+
+-- a set without one of its numbers
+pub without-same : (U : ℕ → Bool) (y : ℕ) → without U y y ≡ false
+without-same U y = by-bool (U y) (λ e. rw (e, eq-eqb y y refl)) (λ e. rw e)
+
+pub without-other : (U : ℕ → Bool) (y j : ℕ) → ¬ (j ≡ y) → without U y j ≡ U j
+without-other U y j h = by-bool (U j) (λ e. rw (e, ne-eqb j y h)) (λ e. rw e)
+
+pub without-intro : (U : ℕ → Bool) (y j : ℕ) → ¬ (j ≡ y) → U j ≡ true → without U y j ≡ true
+without-intro U y j h e = without-other U y j h ∙ e
+
+pub without-elim {ℓ} : {X : Type ℓ} (U : ℕ → Bool) (y j : ℕ) → without U y j ≡ true → (¬ (j ≡ y) → U j ≡ true → X) → X
+without-elim U y j e k =
+    by-eq j y
+    (λ q. not-both (without U y y) (without-same U y) (ap (without U y) (sym q) ∙ e))
+    (λ q. k q (sym (without-other U y j q) ∙ e))
+
+pub without-comm : (U : ℕ → Bool) (x y : ℕ) → without (without U x) y ≡ without (without U y) x
+without-comm U x y = fun-ext (λ j. by-bool (U j) (λ e. rw e (swap (eqb j x) (eqb j y))) (λ e. rw e))
+  where
+    swap : (a b : Bool) → (not a && not b) ≡ (not b && not a)
+    swap true true = refl
+    swap true false = refl
+    swap false true = refl
+    swap false false = refl
+
+pub sum-le : (f g : ℕ → ℕ) (n : ℕ) → ((j : ℕ) → j < n → f j ≤ g j) → sum f n ≤ sum g n
+unfolding sum
+sum-le f g zero h = omega arith
+sum-le f g (suc n) h = omega (arith, sum-le f g n (λ j l. h j (omega arith)), h n (omega arith))
+
+pub sum-ext : (f g : ℕ → ℕ) (n : ℕ) → ((j : ℕ) → j < n → f j ≡ g j) → sum f n ≡ sum g n
+unfolding sum
+sum-ext f g zero h = refl
+sum-ext f g (suc n) h = omega (arith, sum-ext f g n (λ j l. h j (omega arith)), h n (omega arith))
+
+pub given-yes : (b : Bool) (x : ℕ) → b ≡ true → given b x ≡ x
+given-yes b x e = rw e
+
+pub given-no : (b : Bool) (x : ℕ) → b ≡ false → given b x ≡ 0
+given-no b x e = rw e
+
+pub given-le : (b : Bool) {x y : ℕ} → x ≤ y → given b x ≤ given b y
+given-le true h = h
+given-le false h = omega arith
+
+-- one number taken out of a sum
+pub sum-without : (U : ℕ → Bool) (y : ℕ) (f : ℕ → ℕ) (n : ℕ) → y < n → U y ≡ true →
+    sum (λ j. given (without U y j) (f j)) n + f y ≡ sum (λ j. given (U j) (f j)) n
+unfolding sum
+sum-without U y f zero h e = absurd (omega arith)
+sum-without U y f (suc n) h e =
+    by-eq n y
+    (λ q.
+    omega (
+      arith,
+      sum-ext (λ j. given (without U y j) (f j)) (λ j. given (U j) (f j)) n (λ j l. ap (λ b. given b (f j)) (without-other U y j (omega arith))),
+      given-no (without U y n) (f n) (rw q (without-same U y)),
+      given-yes (U n) (f n) (rw q e),
+      ap f q,
+    ))
+    (λ q. omega (arith, sum-without U y f n (omega arith) e, ap (λ b. given b (f n)) (without-other U y n q)))
+
+pub largest-ge : (f : ℕ → ℕ) (n j : ℕ) → j < n → f j ≤ largest f n
+unfolding largest
+largest-ge f zero j h = absurd (omega arith)
+largest-ge f (suc n) j h = by-eq j n (λ e. rw e (omega arith)) (λ e. omega (arith, largest-ge f n j (omega arith)))
+
+pub largest-le : (f : ℕ → ℕ) (n b : ℕ) → ((j : ℕ) → j < n → f j ≤ b) → largest f n ≤ b
+unfolding largest
+largest-le f zero b h = omega arith
+largest-le f (suc n) b h = omega (arith, largest-le f n b (λ j l. h j (omega arith)), h n (omega arith))
+
+pub given-sub : (a b : Bool) (x : ℕ) → (a ≡ true → b ≡ true) → given a x ≤ given b x
+given-sub true b x h = rw (h refl) (omega arith)
+given-sub false b x h = omega arith
+
+pub largest-cases {ℓ} : {X : Type ℓ} (f : ℕ → ℕ) (n : ℕ) → (largest f n ≡ 0 → X) → ((j : ℕ) → j < n → largest f n ≡ f j → X) → X
+unfolding largest
+largest-cases f zero a b = a refl
+largest-cases f (suc n) a b =
+    by-le (largest f n) (f n)
+    (λ h. b n (omega arith) (omega arith))
+    (λ h. largest-cases f n (λ e. a (omega arith)) (λ j l e. b j (omega arith) (omega arith)))
+
+-- a positive count has something to count
+pub count-some : (P : ℕ → Bool) (n : ℕ) → 0 < count P n → (j : ℕ) × (j < n) × (P j ≡ true)
+unfolding count sum
+count-some P zero h = absurd (omega arith)
+count-some P (suc n) h =
+    by-bool (P n)
+    (λ e. (n, omega arith, e))
+    (λ e. let r = count-some P n (omega (arith, given-no (P n) 1 e)) in (r .0, omega arith, r .2))
+
+pub count-zero : (P : ℕ → Bool) (n : ℕ) → count P n ≡ 0 → (j : ℕ) → j < n → P j ≡ false
+unfolding count sum
+count-zero P zero h j l = absurd (omega arith)
+count-zero P (suc n) h j l =
+    by-eq j n
+    (λ e. rw e (by-bool (P n) (λ g. absurd (omega (arith, given-yes (P n) 1 g))) (λ g. g)))
+    (λ e. count-zero P n (omega arith) j (omega arith))
+
+pub count-without : (U : ℕ → Bool) (y n : ℕ) → y < n → U y ≡ true → count (without U y) n + 1 ≡ count U n
+unfolding count
+count-without U y n l e = sum-without U y (λ _. 1) n l e
+
+pub count-all : (n : ℕ) → count (λ _. true) n ≡ n
+unfolding count sum
+count-all zero = refl
+count-all (suc n) = omega (arith, count-all n)
+
+pub sum-add : (f g : ℕ → ℕ) (n : ℕ) → sum (λ j. f j + g j) n ≡ sum f n + sum g n
+unfolding sum
+sum-add f g zero = refl
+sum-add f g (suc n) = omega (arith, sum-add f g n)
+
+pub sum-zero : (f : ℕ → ℕ) (n : ℕ) → ((j : ℕ) → j < n → f j ≡ 0) → sum f n ≡ 0
+unfolding sum
+sum-zero f zero h = refl
+sum-zero f (suc n) h = omega (arith, sum-zero f n (λ j l. h j (omega arith)), h n (omega arith))
+
+pub sum-mul : (f : ℕ → ℕ) (c n : ℕ) → sum (λ j. f j * c) n ≡ sum f n * c
+unfolding sum
+sum-mul f c zero = omega arith
+sum-mul f c (suc n) = omega (arith, sum-mul f c n)
+
+pub sum-delta : (x y n : ℕ) → y < n → sum (λ j. given (eqb y j) x) n ≡ x
+unfolding sum
+sum-delta x y zero l = absurd (omega arith)
+sum-delta x y (suc n) l =
+    by-eq y n
+    (λ q. omega (
+      arith,
+      given-yes (eqb y n) x (eq-eqb y n q),
+      sum-zero (λ j. given (eqb y j) x) n (λ j g. given-no (eqb y j) x (ne-eqb y j (omega arith))),
+    ))
+    (λ q. omega (arith, given-no (eqb y n) x (ne-eqb y n q), sum-delta x y n (omega arith)))
+
+pub sum-none : (x y n : ℕ) → n ≤ y → sum (λ j. given (eqb y j) x) n ≡ 0
+sum-none x y n l = sum-zero (λ j. given (eqb y j) x) n (λ j g. given-no (eqb y j) x (ne-eqb y j (omega arith)))
+
+pub sum-lt : (f g : ℕ → ℕ) (n k : ℕ) → ((j : ℕ) → j < n → f j ≤ g j) → k < n → f k < g k → sum f n < sum g n
+unfolding sum
+sum-lt f g zero k h l a = absurd (omega arith)
+sum-lt f g (suc n) k h l a =
+    by-eq k n
+    (λ q. omega (arith, sum-le f g n (λ j i. h j (omega arith)), subst (λ z. f z < g z) q a))
+    (λ q. omega (arith, sum-lt f g n k (λ j i. h j (omega arith)) (omega arith) a, h n (omega arith)))
+
+-- a sum over jobs, row by row
+pub sum-swap : (r h : ℕ → ℕ) (n m : ℕ) → ((k : ℕ) → k < m → r k < n) →
+    sum h m ≡ sum (λ j. sum (λ k. given (eqb (r k) j) (h k)) m) n
+unfolding sum
+sum-swap r h n zero l = sym (sum-zero (λ j. sum (λ k. given (eqb (r k) j) (h k)) zero) n (λ j _. refl))
+sum-swap r h n (suc m) l =
+    omega (
+      arith,
+      sum-swap r h n m (λ k g. l k (omega arith)),
+      sum-delta (h m) (r m) n (l m (omega arith)),
+      sum-add (λ j. sum (λ k. given (eqb (r k) j) (h k)) m) (λ j. given (eqb (r m) j) (h m)) n,
+    )
+
+pub sum-front : (f : ℕ → ℕ) (m n : ℕ) → m ≤ n → sum (λ k. given (ltb k m) (f k)) n ≡ sum f m
+unfolding sum
+sum-front f m zero l = let q : m ≡ 0 = omega arith in rw q
+sum-front f m (suc n) l =
+    by-le m n
+    (λ h. omega (arith, sum-front f m n h, given-no (ltb n m) (f n) (le-ltb n m h)))
+    (λ h.
+    let q : m ≡ suc n = omega arith in
+    rw q
+    (omega (
+      arith,
+      given-yes (ltb n (suc n)) (f n) (lt-ltb n (suc n) (omega arith)),
+      sum-ext (λ k. given (ltb k (suc n)) (f k)) f n (λ k g. given-yes (ltb k (suc n)) (f k) (lt-ltb k (suc n) (omega arith))),
+    )))
+
+pub sum-ge : (f : ℕ → ℕ) (n j : ℕ) → j < n → f j ≤ sum f n
+unfolding sum
+sum-ge f zero j l = absurd (omega arith)
+sum-ge f (suc n) j l = by-eq j n (λ q. rw q (omega arith)) (λ q. omega (arith, sum-ge f n j (omega arith)))
+
+pub sum-shift : (f : ℕ → ℕ) (a b : ℕ) → sum f (a + b) ≡ sum f a + sum (λ v. f (a + v)) b
+unfolding sum
+sum-shift f a zero = rw (add-zero a) (omega arith)
+sum-shift f a (suc b) = rw (add-suc a b) (omega (arith, sum-shift f a b))
+
+pub sum-fubini : (h : ℕ → ℕ → ℕ) (m n : ℕ) → sum (λ u. sum (h u) n) m ≡ sum (λ r. sum (λ u. h u r) m) n
+unfolding sum
+sum-fubini h zero n = sym (sum-zero (λ r. sum (λ u. h u r) zero) n (λ _ _. refl))
+sum-fubini h (suc m) n = omega (arith, sum-fubini h m n, sum-add (λ r. sum (λ u. h u r) m) (h m) n)
+
+pub sum-more : (f : ℕ → ℕ) (a b : ℕ) → a ≤ b → sum f a ≤ sum f b
+sum-more f a b h =
+    let q : a + (b - a) ≡ b = omega arith in
+    omega (arith, sum-shift f a (b - a), ap (sum f) q)

@@ -1,0 +1,12 @@
+// Rounding up, the one place where the planner divides and rounds.
+ghost use mathlib.Core.Path.{_≡_};
+ghost use Prim.Native.Nat.{_+_, _<_, _≤_};
+ghost use Rattle.counting.specs.Up.{up};
+
+// x / d rounded up: d less one is added, then divided.
+pub fn round_up(x: u64, d: u64) -> u64
+    requires { ⌜ (0 < d) × (x + d ≤ 18446744073709551615) ⌝ }
+    ensures { λ r. ⌜ r ≡ up x d ⌝ }
+{
+    (x + (d - 1)) / d
+}
