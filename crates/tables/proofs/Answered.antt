@@ -1,0 +1,92 @@
+-- Any two results that an operation's promise allows are equal, where each check has one place and the given answer is settled. Assumes nothing.
+use Prim.Native.Nat.{ℕ, _+_, _-_, _≤_}
+use mathlib.Core.Path.{_≡_, sym, ap, _∙_}
+use mathlib.Core.Logic.{⊎-elim}
+use mathlib.Core.List.{List, [], _∷_}
+use native.Mathlib.Omega.{arith}
+use lib.ListN.{getD, drop}
+use lib.Seq.{getD-drop}
+use Rattle.counting.proofs.Least.{least-unique}
+use Rattle.tables.specs.Table.{Table}
+use Rattle.tables.specs.Refusal.{Check, Clear, Result, Refused, Answered}
+use Rattle.tables.specs.Checks.{shape, range, plan-form, jobs-shape, job-rules, room}
+
+-- the check hits at one place at most
+abbrev pub OnePlace : Check → Type 0
+OnePlace c = (a b : ℕ) → c .hits a → c .hits b → a ≡ b
+
+-- each check of the list does
+abbrev pub OnePlaces : List Check → Type 0
+OnePlaces [] = Unit
+OnePlaces (c ∷ cs) = OnePlace c × OnePlaces cs
+
+-- no check of the list hits
+abbrev pub AllClear : List Check → Type 0
+AllClear [] = Unit
+AllClear (c ∷ cs) = Clear c × AllClear cs
+
+-- one value and one later content of the output are given
+abbrev pub OneGiven : (ℕ → List ℕ → Type 0) → Type 0
+OneGiven Given = (v w : ℕ) (l m : List ℕ) → Given v l → Given w m → (v ≡ w) × (l ≡ m)
+
+pub result-same : (r s : Result) → r .number ≡ s .number → r .place ≡ s .place → r .value ≡ s .value → r .out ≡ s .out → r ≡ s
+result-same r s n p v o = ext n p v o
+  where
+    ext : {n m p q v w : ℕ} {l k : List ℕ} → n ≡ m → p ≡ q → v ≡ w → l ≡ k →
+        _≡_ {A = Result} (record { number = n; place = p; value = v; out = l }) (record { number = m; place = q; value = w; out = k })
+    ext n p v o = rw (n, p, v, o)
+
+refused-same : (c : Check) (out : List ℕ) (r s : Result) → OnePlace c → Refused c out r → Refused c out s → r ≡ s
+refused-same c out r s one a b =
+    result-same r s (a .number ∙ sym (b .number)) (one (r .place) (s .place) (a .place) (b .place)) (a .value ∙ sym (b .value))
+    (a .unwritten ∙ sym (b .unwritten))
+
+pub answered-unique : (cs : List Check) (Given : ℕ → List ℕ → Type 0) (out : List ℕ) (r s : Result) →
+    OnePlaces cs → (AllClear cs → OneGiven Given) → Answered cs Given out r → Answered cs Given out s → r ≡ s
+answered-unique [] Given out r s one given a b =
+    let g = given tt (r .value) (s .value) (r .out) (s .out) (a .given) (b .given) in
+    result-same r s (a .number ∙ sym (b .number)) (a .place ∙ sym (b .place)) (g .0) (g .1)
+answered-unique (c ∷ cs) Given out r s one given a b =
+    ⊎-elim
+    (λ x. ⊎-elim
+    (λ y. refused-same c out r s (one .0) x y)
+    (λ y. absurd (y .0 (r .place) (x .place)))
+    b)
+    (λ x. ⊎-elim
+    (λ y. absurd (x .0 (s .place) (y .place)))
+    (λ y. answered-unique cs Given out r s (one .1) (λ clear. given (x .0, clear)) (x .1) (y .1))
+    b)
+    a
+
+-- two lists whose remainders from n on are the same agree from n on
+pub same-rest : (n : ℕ) (l m : List ℕ) → drop n l ≡ drop n m → (i : ℕ) → n ≤ i → getD l i 0 ≡ getD m i 0
+same-rest n l m e i h =
+    let q : n + (i - n) ≡ i = omega arith in
+    ap (λ k. getD l k 0) (sym q)
+    ∙ sym (getD-drop n l (i - n) 0)
+    ∙ ap (λ x. getD x (i - n) 0) e
+    ∙ getD-drop n m (i - n) 0
+    ∙ ap (λ k. getD m k 0) q
+
+-- the checks of tables, plans, job lists and outputs
+pub shape-place : (xs : List ℕ) → OnePlace (shape xs)
+shape-place xs a b h g = h .0 ∙ sym (g .0)
+
+pub range-place : (xs : List ℕ) → OnePlace (range xs)
+range-place xs a b h g = least-unique h g
+
+pub plan-form-place : (tb : Table) (ps : List ℕ) → OnePlace (plan-form tb ps)
+plan-form-place tb ps a b h g =
+    ⊎-elim
+    (λ x. ⊎-elim (λ y. x .0 ∙ sym (y .0)) (λ y. absurd (x .1 (y .0))) g)
+    (λ x. ⊎-elim (λ y. absurd (y .1 (x .0))) (λ y. least-unique (x .1) (y .1)) g)
+    h
+
+pub jobs-shape-place : (js : List ℕ) → OnePlace (jobs-shape js)
+jobs-shape-place js a b h g = h .0 ∙ sym (g .0)
+
+pub job-rules-place : (tb : Table) (js : List ℕ) → OnePlace (job-rules tb js)
+job-rules-place tb js a b h g = least-unique h g
+
+pub room-place : (needed : ℕ) (out : List ℕ) → OnePlace (room needed out)
+room-place needed out a b h g = h .0 ∙ sym (g .0)

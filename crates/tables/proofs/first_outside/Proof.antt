@@ -1,0 +1,63 @@
+-- `first_outside` meets its contract: every number passed is within the limits. Assumes nothing.
+use Prim.Native.Nat.{ℕ, _≤_, _<_, _-_}
+use native.Mathlib.Omega.{arith}
+use lib.ListN.{length, getD}
+use borrow.Author.Count.{below-none, below-more}
+use borrow.Author.Needs.{needs}
+use Rattle.tables.specs.Table.{Within}
+use Rattle.tables.proofs.first_outside.Statement.{statement}
+use Rattle.tables.proofs.first_outside.Tie as tie
+
+abbrev Inv-loop : tie.InvT-loop
+Inv-loop xs at₀ at = (at ≤ length xs) × ((j : ℕ) → j < at → Within (getD xs j 0))
+
+abbrev μ-loop : tie.MeasureT-loop
+μ-loop xs at₀ at = length xs - at
+
+loop-holds : tie.Need-loop-holds Inv-loop μ-loop
+loop-holds c = (search needs, below-none _)
+
+mul-x : tie.Need-mul-x Inv-loop μ-loop
+mul-x c = search needs
+
+shared-slice-read-x : tie.Need-shared-slice-read-x Inv-loop μ-loop
+shared-slice-read-x c = search needs
+
+returns : tie.Need-returns Inv-loop μ-loop
+returns c =
+    let here = c .before .before .before .loop in
+    record { inside = omega arith; within = here .inv .1; outside = λ _ w. let l = w .low in let t = c .if1 .taken in omega arith }
+
+returns-2 : tie.Need-returns-2 Inv-loop μ-loop
+returns-2 c =
+    let here = c .before .before .before .before .loop in
+    record { inside = omega arith; within = here .inv .1; outside = λ _ w. let l = w .high in let t = c .if2 .taken in omega arith }
+
+add-at : tie.Need-add-at Inv-loop μ-loop
+add-at c = search needs
+
+loop-less : tie.Need-loop-less Inv-loop μ-loop
+loop-less c = search needs
+
+loop-again : tie.Need-loop-again Inv-loop μ-loop
+loop-again c =
+    (search needs, below-more _ _ (c .before .before .before .before .loop .inv .1) (record { low = omega arith; high = omega arith }))
+
+returns-3 : tie.Need-returns-3 Inv-loop μ-loop
+returns-3 c = record { inside = omega arith; within = c .before .loop .inv .1; outside = λ l. absurd (omega arith) }
+
+pub first-outside-spec : {M : Type 1} → statement M
+first-outside-spec =
+    tie.close
+    (tie.spec
+    Inv-loop
+    μ-loop
+    loop-holds
+    mul-x
+    shared-slice-read-x
+    returns
+    returns-2
+    add-at
+    loop-less
+    loop-again
+    returns-3)

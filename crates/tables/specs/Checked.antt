@@ -1,0 +1,35 @@
+-- What the check functions answer: each case of their enums, said by the checks of `Checks`.
+use Prim.Native.Nat.{ℕ, _*_, _≤_, _<_}
+use mathlib.Core.Path.{_≡_}
+use mathlib.Core.Bool.{Bool, true, false}
+use mathlib.Core.List.{List}
+use lib.ListN.{length, getD}
+use Rattle.tables.specs.Table.{Table, Within, row-width}
+use Rattle.tables.specs.Refusal.{Clear}
+use Rattle.tables.specs.Checks.{shape, range, plan-form}
+use Rattle.tables.specs.declared.TableCheck.{TableCheck}
+use Rattle.tables.specs.declared.TableCheck.the-variants.{Sound, Shape, Range}
+use Rattle.tables.specs.declared.PlanCheck.{PlanCheck}
+use Rattle.tables.specs.declared.PlanCheck.the-variants.{WellFormed, AtFault}
+
+-- yes where A holds, and no where it does not
+abbrev pub Says : Bool → Type 0 → Type 0
+Says true A = A
+Says false A = A → ⊥
+
+-- i is the index of the first number outside 1 to 1,000,000, or the length where there is none
+pub record FirstOutside (xs : List ℕ) (i : ℕ) : Type 0 where
+  pub inside : i ≤ length xs
+  pub within : (j : ℕ) → j < i → Within (getD xs j 0)
+  pub outside : i < length xs → Within (getD xs i 0) → ⊥
+
+-- the checks 1 and 3, in this order; n rows where both are clear
+abbrev pub TableChecked : List ℕ → TableCheck → Type 0
+TableChecked xs (Sound n) = Clear (shape xs) × Clear (range xs) × (length xs ≡ row-width * n)
+TableChecked xs Shape = shape xs .hits 0
+TableChecked xs (Range at) = Clear (shape xs) × range xs .hits at
+
+-- the check 6
+abbrev pub PlanChecked : Table → List ℕ → PlanCheck → Type 0
+PlanChecked tb ps WellFormed = Clear (plan-form tb ps)
+PlanChecked tb ps (AtFault at) = plan-form tb ps .hits at

@@ -1,0 +1,35 @@
+-- Plans: document 01, "Plan for times, verdict and play".
+use Prim.Native.Nat.{ℕ, _+_, _*_, _≤_, _<_}
+use mathlib.Core.Path.{_≡_}
+use mathlib.Core.List.{List}
+use lib.ListN.{getD}
+use Rattle.tables.specs.Table.{Table}
+
+-- rank i the rank (1 is highest) and len i the length of the final region of row i
+pub record Plan : Type 0 where
+  pub rank : ℕ → ℕ
+  pub len : ℕ → ℕ
+
+-- "two numbers a row, rank and length, in table order"
+abbrev pub plan-width : ℕ
+plan-width = 2
+
+-- the plan that stands in a slice
+abbrev pub planOf : List ℕ → Plan
+planOf ps = record { rank = λ i. getD ps (plan-width * i) 0; len = λ i. getD ps (plan-width * i + 1) 0 }
+
+-- "A length is 1 to C": the most that the length of a row's final region may be
+abbrev pub cap : Table → ℕ → ℕ
+cap tb i = tb .C i
+
+-- what a row below blocks with: its length
+abbrev pub blocks : Plan → ℕ → ℕ
+blocks p j = p .len j
+
+-- a well-formed plan: "Ranks are 1 to n, each once; 1 is highest. A length is 1 to C."
+pub record WellFormed (tb : Table) (p : Plan) : Type 0 where
+  pub rank-low : (i : ℕ) → i < tb .n → 1 ≤ p .rank i
+  pub rank-high : (i : ℕ) → i < tb .n → p .rank i ≤ tb .n
+  pub once : (i j : ℕ) → i < tb .n → j < tb .n → p .rank i ≡ p .rank j → i ≡ j
+  pub len-low : (i : ℕ) → i < tb .n → 1 ≤ p .len i
+  pub len-high : (i : ℕ) → i < tb .n → p .len i ≤ cap tb i
