@@ -1,0 +1,3 @@
+-- The definitions of the crate `response`.
+pub mod Test
+pub mod Answers

@@ -1,0 +1,1 @@
+// The response times of a plan.
