@@ -1,0 +1,8 @@
+-- The laws of the crate `ranks`.
+pub mod Level
+pub mod Ranked
+pub mod Filled
+pub mod Placed
+pub mod Exchange
+pub mod Complete
+pub mod Exists

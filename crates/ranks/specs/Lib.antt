@@ -1,0 +1,3 @@
+-- The definitions of the crate `ranks`.
+pub mod Choice
+pub mod Answers
