@@ -1,0 +1,6 @@
+-- The laws of the crate `kernel`.
+pub mod Rule
+pub mod Executed
+pub mod Steady
+pub mod Finishing
+pub mod Level

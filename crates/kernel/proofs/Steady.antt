@@ -1,0 +1,102 @@
+-- The job that runs goes on running until it finishes or, where it is not locked, until a release: what a play from decision to decision
+-- rests on. Assumes nothing.
+use Prim.Native.Nat.{ℕ, zero, suc, _+_, _≤_, _<_}
+use mathlib.Core.Path.{_≡_, ap, sym, _∙_, subst}
+use mathlib.Core.Bool.{true}
+use mathlib.Core.Logic.{_⊎_, ⊎-elim}
+use native.Mathlib.Omega.{arith}
+use native.Mathlib.Nat.{add-suc, add-zero}
+use borrow.Author.Tests.{ltb-true, ltb-false}
+use Rattle.counting.proofs.Cases.{by-bool, by-eq}
+use Rattle.tables.specs.Table.{Table, Sound}
+use Rattle.tables.specs.Plan.{Plan, WellFormed}
+use Rattle.tables.specs.Jobs.{Jobs, Lawful}
+use Rattle.kernel.specs.Rule.{job, locked}
+use Rattle.kernel.proofs.Rule as R
+use Rattle.kernel.proofs.Executed as X
+
+-- a region ends with the job: a locked job stays locked
+pub locked-on : (tb : Table) (p : Plan) (i e d : ℕ) → locked tb p i e ≡ true → locked tb p i (e + d) ≡ true
+locked-on tb p i e d h = by-bool (locked tb p i (e + d)) (λ g. g) (λ g. absurd (omega (arith, ltb-true, ltb-false)))
+
+-- nothing is released in the ticks t + 1, .., t + x
+abbrev pub Calm : Jobs → ℕ → ℕ → Type 0
+Calm js t x = (k : ℕ) → k < js .N → js .release k ≤ t + x → js .release k ≤ t
+
+-- Job c runs in tick t, d ticks at least are left to it, and in each of them it is locked or nothing was released since.
+module _ (tb : Table) (p : Plan) (js : Jobs) (sound : Sound tb) (wf : WellFormed tb p) (lawful : Lawful tb js)
+    (t c d : ℕ) (is : X.runs tb p js t ≡ job c) (left : X.E tb p js t c + d ≤ js .run c)
+    (calm : (x : ℕ) → x < d → (locked tb p (js .row c) (X.E tb p js t c + x) ≡ true) ⊎ Calm js t x) where
+  abbrev E : ℕ → ℕ → ℕ
+  E = X.E tb p js
+
+  -- after x ticks only c has executed, x ticks
+  pub record After (x : ℕ) : Type 0 where
+    pub mine : E (t + x) c ≡ E t c + x
+    pub other : (k : ℕ) → (k ≡ c → ⊥) → E (t + x) k ≡ E t k
+
+  new : X.Fresh tb p js
+  new = X.fresh tb p js wf lawful
+
+  cl : c < js .N
+  cl = X.runs-left tb p js t c is .0
+
+  on : (x : ℕ) → x < d → After x → locked tb p (js .row c) (E t c + x) ≡ true → X.runs tb p js (t + x) ≡ job c
+  on x h a l =
+      X.runs-on tb p js new (t + x) c cl
+      (record { left = omega (arith, a .mine); held = rw (a .mine) l })
+
+  -- a job that led at t and has no rival released since
+  led : (x : ℕ) → x < d → After x → Calm js t x → R.Free tb p js (E t) → R.Leads tb p js (E t) t c → X.runs tb p js (t + x) ≡ job c
+  led x h a quiet free lead =
+      let u = t + x in
+      let pc : R.Pending tb p js (E u) u c = record { since = omega (arith, lead .pends .since); left = omega (arith, a .mine) } in
+      R.rule tb p js (E u) u
+      (λ k kl q r.
+      q
+      ∙ ap job
+      (by-eq k c (λ e. e)
+      (λ ne.
+      let s = a .other k ne in
+      absurd (free k kl (record { left = omega (arith, r .left); held = subst (λ e. locked tb p (js .row k) e ≡ true) s (r .held) })))))
+      (λ k kl q _ f.
+      q
+      ∙ ap job
+      (by-eq k c (λ e. e)
+      (λ ne.
+      let s = a .other k ne in
+      let pk : R.Pending tb p js (E t) t k =
+      record { since = quiet k kl (f .pends .since); left = omega (arith, f .pends .left) } in
+      let row : js .row k ≡ js .row c =
+      wf .once (js .row k) (js .row c) (lawful .row k kl) (lawful .row c cl)
+      (omega (arith, f .highest c cl pc, lead .highest k kl pk)) in
+      R.same-job tb js sound lawful k c kl cl row
+      (omega (arith, f .earliest c cl pc (sym row), lead .earliest k kl pk row)))))
+      (λ _ _ none. absurd (none c cl pc))
+
+  goes-on : (x : ℕ) → x < d → After x → X.runs tb p js (t + x) ≡ job c
+  goes-on x h a =
+      ⊎-elim (on x h a)
+      (λ quiet.
+      R.rule tb p js (E t) t
+      (λ k kl q r.
+      let e : k ≡ c = cc in
+      on x h a (locked-on tb p (js .row c) (E t c) x (subst (λ j. locked tb p (js .row j) (E t j) ≡ true) e (r .held))))
+      (λ k kl q free f. let e : k ≡ c = cc in led x h a quiet free (subst (R.Leads tb p js (E t) t) e f))
+      (λ q _ _. let z : _≡_ {A = ℕ} 0 1 = cc in absurd (omega arith)))
+      (calm x h)
+
+  pub steady : (x : ℕ) → x ≤ d → After x
+  steady zero h = record { mine = rw (add-zero t) (omega arith); other = λ k _. rw (add-zero t) }
+  steady (suc x) h =
+      let a = steady x (omega arith) in
+      let r = goes-on x (omega arith) a in
+      record {
+        mine = rw (add-suc t x) (omega (arith, X.executed-at tb p js (t + x) c r, a .mine));
+        other = λ k ne.
+            rw (add-suc t x) (X.executed-not tb p js (t + x) k (λ q. let e : k ≡ c = cc in ne e) ∙ a .other k ne);
+      }
+
+  -- and in each of the d ticks c runs
+  pub stays : (x : ℕ) → x < d → X.runs tb p js (t + x) ≡ job c
+  stays x h = goes-on x h (steady x (omega arith))

@@ -1,0 +1,28 @@
+-- The answer of `play`: document 01, "What is delivered", "Finish output" and "Numbers of refusal".
+use Prim.Native.Nat.{ℕ, _<_}
+use mathlib.Core.Path.{_≡_}
+use mathlib.Core.List.{List, [], _∷_}
+use lib.ListN.{length, getD, drop}
+use Rattle.tables.specs.Table.{Table, tableOf}
+use Rattle.tables.specs.Plan.{Plan, planOf}
+use Rattle.tables.specs.Jobs.{Jobs, jobsOf}
+use Rattle.tables.specs.Refusal.{Result, Answered}
+use Rattle.tables.specs.Checks.{shape, range, plan-form, jobs-shape, job-rules, room}
+use Rattle.kernel.specs.Rule.{Finishes}
+
+-- "Finish output: one number a job, the tick after its last executed tick"; the remainder unchanged
+pub record PlayGiven (tb : Table) (p : Plan) (js : Jobs) (out : List ℕ) (value : ℕ) (after : List ℕ) : Type 0 where
+  pub many : value ≡ js .N
+  pub finishes : (k : ℕ) → k < js .N → Finishes tb p js k (getD after k 0)
+  pub whole : length after ≡ length out
+  pub rest : drop (js .N) after ≡ drop (js .N) out
+
+-- play: "a task table, a plan and a job list to finish ticks"; refusals 1, 3, 6, 7, 8, 2
+abbrev pub PlayAnswer : List ℕ → List ℕ → List ℕ → List ℕ → Result → Type 0
+PlayAnswer xs ps js out r =
+    let tb = tableOf xs in
+    Answered
+    (shape xs ∷ range xs ∷ plan-form tb ps ∷ jobs-shape js ∷ job-rules tb js ∷ room (jobsOf js .N) out ∷ [])
+    (PlayGiven tb (planOf ps) (jobsOf js) out)
+    out
+    r

@@ -1,0 +1,3 @@
+-- The definitions of the crate `kernel`.
+pub mod Rule
+pub mod Answers

@@ -1,0 +1,1 @@
+// The kernel played from decision to decision.
