@@ -1,0 +1,1 @@
+// How long the kernel's jobs take, against the response of their row: theorems only.

@@ -1,0 +1,178 @@
+-- Demand 2 is met: the theorems of the statements in specs/Demand2.antt. Assumes nothing.
+use Prim.Native.Nat.{ℕ, _*_, _≤_, _<_}
+use mathlib.Core.Path.{_≡_, refl, ap, sym, _∙_, subst}
+use mathlib.Core.Logic.{⊎-elim, _↔_}
+use mathlib.Core.List.{List, [], _∷_}
+use native.Mathlib.Omega.{arith}
+use lib.ListN.{length, getD}
+use Rattle.tables.specs.Table.{Table, Sound, tableOf}
+use Rattle.tables.specs.Plan.{Plan, WellFormed, planOf}
+use Rattle.tables.specs.Refusal.{Clear, Result}
+use Rattle.tables.specs.Checks.{shape, range, plan-form, room}
+use Rattle.tables.proofs.Clear.{sound-of-clear, clear-of-sound, plan-of-clear, clear-of-plan}
+use Rattle.response.specs.Test.{ResponseOf, RowPasses, Passes, above, blocking}
+use Rattle.response.specs.Answers.{no-busy, TimesAnswer, TimesGiven, VerdictAnswer, VerdictGiven}
+use Rattle.response.proofs.Load.{Positive, sound-positive}
+use Rattle.response.proofs.Response.{response-unique}
+use Rattle.response.proofs.Plans.{plan-alike}
+use Rattle.ranks.specs.Choice.{Chosen, Stopped}
+use Rattle.ranks.specs.Answers.{PlanAnswer, PlanGiven, planned-width, plannedOf, responseIn, no-plan}
+use Rattle.ranks.proofs.Complete.{chosen-well-formed, chosen-passes, chosen-shortest, stopped-no-plan}
+use Rattle.demands.specs.Demand2.{Plannable, Accepted, RefusedExactlyIfNonePasses, Given, ShortestAtEachRank, Columns, Agrees, PlanTimesVerdictAgree}
+use Rattle.demands.proofs.Granted.{granted}
+use Rattle.demands.proofs.Columns.{columns-exist}
+
+-- a given answer came past every check
+record Planned (xs out : List ℕ) (r : Result) : Type 0 where
+  pub shaped : Clear (shape xs)
+  pub ranged : Clear (range xs)
+  pub busy : Clear (no-busy (tableOf xs))
+  pub given : PlanGiven (tableOf xs) out (r .value) (r .out)
+
+planned : (xs out : List ℕ) (r : Result) → PlanAnswer xs out r → r .number ≡ 0 → Planned xs out r
+planned xs out r a zero =
+    let tb = tableOf xs in
+    let g =
+    granted
+    (shape xs ∷ range xs ∷ room (planned-width * tb .n) out ∷ no-busy tb ∷ no-plan tb ∷ [])
+    (PlanGiven tb out)
+    out
+    r
+    refl
+    zero
+    a in
+    record { shaped = g .0 .0; ranged = g .0 .1 .0; busy = g .0 .1 .1 .1 .0; given = g .1 .given }
+
+-- a given plan is well formed, passes, and has the shortest regions
+given-of : (xs out : List ℕ) (r : Result) → Planned xs out r → Given (tableOf xs) (plannedOf (r .out))
+given-of xs out r g =
+    let tb = tableOf xs in
+    let p = plannedOf (r .out) in
+    let pos = sound-positive tb (sound-of-clear xs (g .shaped) (g .ranged)) in
+    let c = g .given .chosen in
+    record {
+      well-formed = chosen-well-formed tb pos p c;
+      passes = chosen-passes tb pos p c;
+      shortest = chosen-shortest tb pos p c;
+    }
+
+pub shortest-at-each-rank : ShortestAtEachRank
+shortest-at-each-rank xs out r a zero = given-of xs out r (planned xs out r a zero)
+
+-- the columns of a well-formed planned table are a well-formed plan, and pass where it does
+module _ (xs ps written : List ℕ) (pos : Positive (tableOf xs)) (g : Given (tableOf xs) (plannedOf written))
+    (c : Columns (tableOf xs) written ps) where
+  abbrev tb : Table
+  tb = tableOf xs
+
+  abbrev p : Plan
+  p = plannedOf written
+
+  abbrev o : Plan
+  o = planOf ps
+
+  columns-well-formed : WellFormed tb o
+  columns-well-formed =
+      let w = g .well-formed in
+      record {
+        rank-low = λ i l. omega (arith, c .rank i l, w .rank-low i l);
+        rank-high = λ i l. omega (arith, c .rank i l, w .rank-high i l);
+        once = λ i j l m e. w .once i j l m (c .rank i l ∙ e ∙ sym (c .rank j m));
+        len-low = λ i l. omega (arith, c .len i l, w .len-low i l);
+        len-high = λ i l. omega (arith, c .len i l, w .len-high i l);
+      }
+
+  columns-response : (i R : ℕ) → i < tb .n → ResponseOf tb p i R → ResponseOf tb o i R
+  columns-response i R l x =
+      plan-alike tb p o (λ j m. (c .rank j m, c .len j m)) i R pos l (g .well-formed .len-low i l) (g .well-formed .len-high i l) x
+
+  columns-pass : Passes tb o
+  columns-pass i l =
+      let x = g .passes i l in
+      record { R = x .R; response = columns-response i (x .R) l (x .response); within = x .within }
+
+  columns-accepted : Accepted xs ps
+  columns-accepted = clear-of-plan tb ps (c .whole) columns-well-formed
+
+-- Complete
+pub refused-exactly-if-none-passes : RefusedExactlyIfNonePasses
+refused-exactly-if-none-passes xs out r able a = (refused-none, none-refused)
+  where
+    pos : Positive (tableOf xs)
+    pos = sound-positive (tableOf xs) (able .sound)
+
+    clear : Clear (shape xs) × Clear (range xs)
+    clear = clear-of-sound xs (able .whole) (able .sound)
+
+    -- past the checks that the assumptions rule out: stopped, or given
+    cases : {X : Type 0} → (r .number ≡ 5 → Stopped (tableOf xs) → X) → (r .number ≡ 0 → X) → X
+    cases f g =
+        ⊎-elim (λ x. absurd (clear .0 (r .place) (x .place))) (λ x.
+        ⊎-elim (λ y. absurd (clear .1 (r .place) (y .place))) (λ y.
+        ⊎-elim (λ z. absurd (omega (arith, z .place, able .room))) (λ z.
+        ⊎-elim (λ v. absurd (v .place .1 (able .busy))) (λ v.
+        ⊎-elim (λ w. f (w .number) (w .place .1)) (λ w. g (w .1 .number))
+        (v .1)) (z .1)) (y .1)) (x .1)) a
+
+    refused-none : r .number ≡ 5 → (ps : List ℕ) → Accepted xs ps → Passes (tableOf xs) (planOf ps) → ⊥
+    refused-none five ps ok passes =
+        cases
+        (λ _ s. stopped-no-plan (tableOf xs) pos s (planOf ps) (plan-of-clear (tableOf xs) ps ok .1) passes)
+        (λ zero. omega arith)
+
+    none-refused : ((ps : List ℕ) → Accepted xs ps → Passes (tableOf xs) (planOf ps) → ⊥) → r .number ≡ 5
+    none-refused none =
+        cases (λ five _. five)
+        (λ zero.
+        let g = given-of xs out r (planned xs out r a zero) in
+        let c = columns-exist (tableOf xs) (r .out) in
+        absurd (none (c .0) (columns-accepted xs (c .0) (r .out) pos g (c .1)) (columns-pass xs (c .0) (r .out) pos g (c .1))))
+
+-- Together
+module _ (xs out : List ℕ) (r : Result) (done : Planned xs out r) (ps : List ℕ) (c : Columns (tableOf xs) (r .out) ps) where
+  pos : Positive (tableOf xs)
+  pos = sound-positive (tableOf xs) (sound-of-clear xs (done .shaped) (done .ranged))
+
+  given : Given (tableOf xs) (plannedOf (r .out))
+  given = given-of xs out r done
+
+  accepted : Accepted xs ps
+  accepted = columns-accepted xs ps (r .out) pos given c
+
+  times-agrees : (lent : List ℕ) (s : Result) → tableOf xs .n ≤ length lent → TimesAnswer xs ps lent s →
+      (s .number ≡ 0) × ((i : ℕ) → i < tableOf xs .n → getD (s .out) i 0 ≡ responseIn (r .out) i)
+  times-agrees lent s enough a =
+      ⊎-elim (λ x. absurd (done .shaped (s .place) (x .place))) (λ x.
+      ⊎-elim (λ y. absurd (done .ranged (s .place) (y .place))) (λ y.
+      ⊎-elim (λ z. absurd (accepted (s .place) (z .place))) (λ z.
+      ⊎-elim (λ v. absurd (omega (arith, v .place))) (λ v.
+      ⊎-elim (λ w. absurd (done .busy (s .place) (w .place))) (λ w. (
+        w .1 .number,
+        λ i l.
+            response-unique (tableOf xs) _ _ i _ (getD (s .out) i 0) (responseIn (r .out) i) (w .1 .given .responses i l)
+            (columns-response xs ps (r .out) pos given c i (responseIn (r .out) i) l (done .given .responses i l)),
+      ))
+      (v .1)) (z .1)) (y .1)) (x .1)) a
+
+  verdict-agrees : (s : Result) → VerdictAnswer xs ps s → (s .number ≡ 0) × (s .value ≡ 1)
+  verdict-agrees s a =
+      ⊎-elim (λ x. absurd (done .shaped (s .place) (x .place))) (λ x.
+      ⊎-elim (λ y. absurd (done .ranged (s .place) (y .place))) (λ y.
+      ⊎-elim (λ z. absurd (accepted (s .place) (z .place))) (λ z.
+      ⊎-elim (λ v. absurd (done .busy (s .place) (v .place))) (λ v. (
+        v .1 .number,
+        ⊎-elim (λ yes. yes .0) (λ no. absurd (no .1 (columns-pass xs ps (r .out) pos given c))) (v .1 .given .said),
+      ))
+      (z .1)) (y .1)) (x .1)) a
+
+pub plan-times-verdict-agree : PlanTimesVerdictAgree
+plan-times-verdict-agree xs out r a zero =
+    let done = planned xs out r a zero in (
+      columns-exist (tableOf xs) (r .out),
+      λ ps c.
+          record {
+            accepted = accepted xs out r done ps c;
+            times = times-agrees xs out r done ps c;
+            verdict = verdict-agrees xs out r done ps c;
+          },
+    )

@@ -1,0 +1,42 @@
+-- Demand 3 in the caller's words: what `times`, `plan` or `verdict` said, against the finishes that `play` wrote.
+use Prim.Native.Nat.{ℕ, _+_, _≤_, _<_}
+use mathlib.Core.Path.{_≡_}
+use mathlib.Core.List.{List}
+use lib.ListN.{getD}
+use Rattle.tables.specs.Table.{tableOf}
+use Rattle.tables.specs.Jobs.{jobsOf}
+use Rattle.tables.specs.Refusal.{Result}
+use Rattle.response.specs.Answers.{TimesAnswer, VerdictAnswer}
+use Rattle.ranks.specs.Answers.{PlanAnswer, responseIn}
+use Rattle.kernel.specs.Answers.{PlayAnswer}
+use Rattle.demands.specs.Demand2.{Columns}
+
+-- whatever times wrote for a row, in whatever job list play accepted for that table and plan, the finish that play wrote is at most
+-- release plus it
+abbrev pub TimesHoldInPlay : Type 0
+TimesHoldInPlay =
+    (xs ps js lent-times lent-finishes : List ℕ) (times play : Result) →
+    TimesAnswer xs ps lent-times times → times .number ≡ 0 →
+    PlayAnswer xs ps js lent-finishes play → play .number ≡ 0 →
+    (k : ℕ) → k < jobsOf js .N →
+    getD (play .out) k 0 ≤ jobsOf js .release k + getD (times .out) (jobsOf js .row k) 0
+
+-- whatever plan wrote for a row, in whatever job list play accepted for that table and the plan that it wrote, the finish that play wrote is
+-- at most release plus it
+abbrev pub PlanHoldsInPlay : Type 0
+PlanHoldsInPlay =
+    (xs ps js lent-plan lent-finishes : List ℕ) (plan play : Result) →
+    PlanAnswer xs lent-plan plan → plan .number ≡ 0 →
+    Columns (tableOf xs) (plan .out) ps →
+    PlayAnswer xs ps js lent-finishes play → play .number ≡ 0 →
+    (k : ℕ) → k < jobsOf js .N →
+    getD (play .out) k 0 ≤ jobsOf js .release k + responseIn (plan .out) (jobsOf js .row k)
+
+-- where verdict said yes, in whatever job list play accepted for that table and plan, the finish that play wrote is at most release plus deadline
+abbrev pub VerdictHoldsInPlay : Type 0
+VerdictHoldsInPlay =
+    (xs ps js lent-finishes : List ℕ) (verdict play : Result) →
+    VerdictAnswer xs ps verdict → verdict .number ≡ 0 → verdict .value ≡ 1 →
+    PlayAnswer xs ps js lent-finishes play → play .number ≡ 0 →
+    (k : ℕ) → k < jobsOf js .N →
+    getD (play .out) k 0 ≤ jobsOf js .release k + tableOf xs .D (jobsOf js .row k)

@@ -1,0 +1,68 @@
+-- Demand 2, in the words of a caller of `plan`: each statement is about whatever the promise of `plan` allows it to answer.
+use Prim.Native.Nat.{ℕ, _*_, _≤_, _<_}
+use mathlib.Core.Path.{_≡_}
+use mathlib.Core.Logic.{_↔_}
+use mathlib.Core.List.{List}
+use lib.ListN.{length, getD}
+use Rattle.counting.specs.Sum.{without}
+use Rattle.tables.specs.Table.{Table, Sound, tableOf, row-width}
+use Rattle.tables.specs.Plan.{Plan, WellFormed, planOf, plan-width, cap}
+use Rattle.tables.specs.Refusal.{Clear, Result}
+use Rattle.tables.specs.Checks.{plan-form}
+use Rattle.response.specs.Test.{BusyWithin, Response, blocking, Passes}
+use Rattle.response.specs.Answers.{TimesAnswer, VerdictAnswer}
+use Rattle.ranks.specs.Choice.{unplaced}
+use Rattle.ranks.specs.Answers.{PlanAnswer, planned-width, plannedOf, responseIn}
+
+-- "For a sound table with its busy period within the horizon and room for the output"
+pub record Plannable (xs out : List ℕ) : Type 0 where
+  pub whole : length xs ≡ row-width * tableOf xs .n
+  pub sound : Sound (tableOf xs)
+  pub busy : BusyWithin (tableOf xs)
+  pub room : planned-width * tableOf xs .n ≤ length out
+
+-- ranks with lengths: a slice that `times` accepts as a plan of the table
+abbrev pub Accepted : List ℕ → List ℕ → Type 0
+Accepted xs ps = Clear (plan-form (tableOf xs) ps)
+
+-- Complete: "a plan is refused exactly if no ranks with any lengths pass"
+abbrev pub RefusedExactlyIfNonePasses : Type 0
+RefusedExactlyIfNonePasses =
+    (xs out : List ℕ) (r : Result) → Plannable xs out → PlanAnswer xs out r →
+    (r .number ≡ 5) ↔ ((ps : List ℕ) → Accepted xs ps → Passes (tableOf xs) (planOf ps) → ⊥)
+
+-- "A given plan passes it and has, at each rank filled from the lowest up, the row with the shortest region that passes": for the rank held by
+-- row y, any row z of that or a higher rank and any length of z: where z's response with that length, the other rows of these ranks above
+-- it and the rows of lower rank below it, is at most z's deadline, the length of y is no longer, and where it is equal y is not later in the table
+pub record Given (tb : Table) (p : Plan) : Type 0 where
+  pub well-formed : WellFormed tb p
+  pub passes : Passes tb p
+  pub shortest :
+      (y z q R : ℕ) → y < tb .n → z < tb .n → p .rank z ≤ p .rank y → 1 ≤ q → q ≤ cap tb z →
+      Response tb (without (unplaced p (p .rank y)) z) (blocking tb p (p .rank y)) z q R → R ≤ tb .D z →
+      (p .len y ≤ q) × (p .len y ≡ q → y ≤ z)
+
+abbrev pub ShortestAtEachRank : Type 0
+ShortestAtEachRank =
+    (xs out : List ℕ) (r : Result) → PlanAnswer xs out r → r .number ≡ 0 → Given (tableOf xs) (plannedOf (r .out))
+
+-- the rank and length columns of a planned table, as a plan for times, verdict and play
+pub record Columns (tb : Table) (planned ps : List ℕ) : Type 0 where
+  pub whole : length ps ≡ plan-width * tb .n
+  pub rank : (i : ℕ) → i < tb .n → plannedOf planned .rank i ≡ planOf ps .rank i
+  pub len : (i : ℕ) → i < tb .n → plannedOf planned .len i ≡ planOf ps .len i
+
+-- what `times` and `verdict` answer for the columns that `plan` wrote: the response column, and yes
+pub record Agrees (xs ps : List ℕ) (planned : List ℕ) : Type 0 where
+  pub accepted : Accepted xs ps
+  pub times :
+      (out : List ℕ) (r : Result) → tableOf xs .n ≤ length out → TimesAnswer xs ps out r →
+      (r .number ≡ 0) × ((i : ℕ) → i < tableOf xs .n → getD (r .out) i 0 ≡ responseIn planned i)
+  pub verdict : (r : Result) → VerdictAnswer xs ps r → (r .number ≡ 0) × (r .value ≡ 1)
+
+-- Together: there are such columns, and for any of them the three operations agree
+abbrev pub PlanTimesVerdictAgree : Type 0
+PlanTimesVerdictAgree =
+    (xs out : List ℕ) (r : Result) → PlanAnswer xs out r → r .number ≡ 0 →
+    ((ps : List ℕ) × Columns (tableOf xs) (r .out) ps)
+    × ((ps : List ℕ) → Columns (tableOf xs) (r .out) ps → Agrees xs ps (r .out))

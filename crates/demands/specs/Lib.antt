@@ -1,0 +1,4 @@
+-- The demands as named propositions, every assumption in sight.
+pub mod Demand2
+pub mod Demand3
+pub mod Callers
