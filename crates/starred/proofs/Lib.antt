@@ -1,0 +1,5 @@
+-- The proofs of the crate `starred`.
+pub mod Seen
+pub mod Trials
+pub mod Clears
+pub mod Figures

@@ -1,0 +1,100 @@
+-- The starred figures: document 01, "Figures on both sides of each edge", every line marked with *, as one table under one statement.
+use Prim.Native.Nat.{ℕ, suc, _+_, _*_, _≤_}
+use mathlib.Core.Path.{_≡_}
+use mathlib.Core.List.{List, [], _∷_}
+use lib.ListN.{length}
+use Rattle.tables.specs.Table.{tableOf}
+use Rattle.tables.specs.Plan.{planOf}
+use Rattle.tables.specs.Refusal.{Result}
+use Rattle.response.specs.Test.{above, blocking, Finish}
+use Rattle.response.specs.Answers.{TimesAnswer}
+use Rattle.ranks.specs.Choice.{unplaced, Shortest}
+use Rattle.ranks.specs.Answers.{PlanAnswer}
+use Rattle.kernel.specs.Answers.{PlayAnswer}
+
+pub data Figure : Type 0 where
+  -- a task table is planned: the planned table
+  plans : List ℕ → List ℕ → Figure
+  -- a task table is refused by planning: the number and the place
+  refuses : List ℕ → ℕ → ℕ → Figure
+  -- a task table and a plan are timed: the times
+  timed : List ℕ → List ℕ → List ℕ → Figure
+  -- a task table, a plan and a job list are played: the finishes
+  plays : List ℕ → List ℕ → List ℕ → List ℕ → Figure
+  -- of a task table and a plan: in row i job k + 1 takes so many ticks
+  takes : List ℕ → List ℕ → ℕ → ℕ → ℕ → Figure
+  -- of a task table and a plan: at rank r row z has this shortest passing length
+  shortest : List ℕ → List ℕ → ℕ → ℕ → ℕ → Figure
+
+-- all of the output is written
+abbrev pub wholly : List ℕ → Result
+wholly ys = record { number = 0; place = 0; value = length ys; out = ys }
+
+-- the figure is right, by the operations' own answers, whatever the lent output holds
+abbrev pub Right : Figure → Type 0
+Right (plans xs ys) = (out : List ℕ) → length out ≡ length ys → PlanAnswer xs out (wholly ys)
+Right (refuses xs number place) =
+    (out : List ℕ) → length xs ≤ length out → PlanAnswer xs out (record { number = number; place = place; value = 0; out = out })
+Right (timed xs ps ys) = (out : List ℕ) → length out ≡ length ys → TimesAnswer xs ps out (wholly ys)
+Right (plays xs ps js ys) = (out : List ℕ) → length out ≡ length ys → PlayAnswer xs ps js out (wholly ys)
+Right (takes xs ps i k ticks) =
+    let tb = tableOf xs in
+    let p = planOf ps in
+    Finish tb (above p (p .rank i)) (blocking tb p (p .rank i)) i (p .len i) (suc k) (ticks + k * tb .T i)
+Right (shortest xs ps r z q) =
+    let tb = tableOf xs in
+    let p = planOf ps in
+    Shortest tb (unplaced p r) (blocking tb p r) z q
+
+-- every figure of a table is right
+abbrev pub AllRight : List Figure → Type 0
+AllRight [] = Unit {0}
+AllRight (f ∷ fs) = Right f × AllRight fs
+
+abbrev pub first-table : List ℕ
+first-table = 1 ∷ 1 ∷ 1 ∷ []
+
+abbrev pub second-table : List ℕ
+second-table = 2 ∷ 5 ∷ 5 ∷ 4 ∷ 7 ∷ 7 ∷ []
+
+abbrev pub second-plan : List ℕ
+second-plan = 1 ∷ 1 ∷ 2 ∷ 2 ∷ []
+
+abbrev pub three-rows : List ℕ
+three-rows = 1 ∷ 4 ∷ 4 ∷ 1 ∷ 6 ∷ 6 ∷ 4 ∷ 12 ∷ 12 ∷ []
+
+unfoldable pub figures : List Figure
+figures =
+    plans first-table (1 ∷ 1 ∷ 1 ∷ [])
+    -- (2,5,5) (4,7,7): "The second row's first job takes 6, its second 7."
+    ∷ plans second-table (1 ∷ 1 ∷ 3 ∷ 2 ∷ 2 ∷ 7 ∷ [])
+    ∷ takes second-table second-plan 1 0 6
+    ∷ takes second-table second-plan 1 1 7
+    -- "Play on the second table and its plan"
+    ∷ plays second-table second-plan (1 ∷ 0 ∷ 4 ∷ 0 ∷ 3 ∷ 2 ∷ []) (4 ∷ 6 ∷ [])
+    ∷ plays second-table second-plan (1 ∷ 0 ∷ 4 ∷ 0 ∷ 2 ∷ 2 ∷ []) (6 ∷ 4 ∷ [])
+    ∷ plays second-table second-plan (1 ∷ 0 ∷ 3 ∷ 0 ∷ 3 ∷ 2 ∷ []) (3 ∷ 5 ∷ [])
+    ∷ plans (2 ∷ 5 ∷ 5 ∷ 4 ∷ 6 ∷ 7 ∷ []) (1 ∷ 1 ∷ 4 ∷ 2 ∷ 3 ∷ 6 ∷ [])
+    ∷ refuses (2 ∷ 5 ∷ 5 ∷ 4 ∷ 5 ∷ 7 ∷ []) 5 0
+    -- "The tie at rank 2 goes to row 0."
+    ∷ plans three-rows (2 ∷ 1 ∷ 2 ∷ 1 ∷ 1 ∷ 1 ∷ 3 ∷ 1 ∷ 8 ∷ [])
+    ∷ shortest three-rows (2 ∷ 1 ∷ 1 ∷ 1 ∷ 3 ∷ 1 ∷ []) 2 0 1
+    ∷ shortest three-rows (2 ∷ 1 ∷ 1 ∷ 1 ∷ 3 ∷ 1 ∷ []) 2 1 1
+    -- "Source document 002 has the 6 of the last row, and 8 with full preemption": lengths of 1
+    ∷ timed three-rows (1 ∷ 1 ∷ 2 ∷ 1 ∷ 3 ∷ 3 ∷ []) (3 ∷ 4 ∷ 6 ∷ [])
+    ∷ timed three-rows (1 ∷ 1 ∷ 2 ∷ 1 ∷ 3 ∷ 4 ∷ []) (4 ∷ 6 ∷ 6 ∷ [])
+    ∷ timed three-rows (1 ∷ 1 ∷ 2 ∷ 1 ∷ 3 ∷ 1 ∷ []) (1 ∷ 2 ∷ 8 ∷ [])
+    ∷ refuses (2 ∷ 3 ∷ 3 ∷ 2 ∷ 3 ∷ 3 ∷ []) 4 0
+    ∷ refuses (5 ∷ 4 ∷ 9 ∷ []) 5 0
+    ∷ []
+
+-- beside them, for the wrong versions that no starred table tells from the right one: below the lowest rank the first row of the table stands highest
+abbrev pub urgent-first : List ℕ
+urgent-first = 1 ∷ 1 ∷ 10 ∷ 1 ∷ 5 ∷ 10 ∷ 1 ∷ 12 ∷ 12 ∷ []
+
+abbrev pub further : Figure
+further = plans urgent-first (1 ∷ 1 ∷ 1 ∷ 3 ∷ 1 ∷ 3 ∷ 2 ∷ 1 ∷ 2 ∷ [])
+
+-- the one statement
+abbrev pub StarredFigures : Type 0
+StarredFigures = AllRight figures
