@@ -1,0 +1,8 @@
+-- The laws of the crate `responses`.
+pub mod Asking
+pub mod Stored
+pub mod Plans
+pub mod Jobs
+pub mod Largest
+pub mod Same
+pub mod Row

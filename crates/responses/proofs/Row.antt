@@ -1,0 +1,66 @@
+-- A row of a plan, with its rows above as a set and its blocking as a number: what its response asks for, and what it then is. Assumes nothing.
+use Prim.Native.Nat.{ℕ, _≤_, _<_}
+use mathlib.Core.Path.{_≡_, refl, sym, _∙_, subst}
+use mathlib.Core.Bool.{Bool, true}
+use mathlib.Core.List.{List}
+use native.Mathlib.Omega.{arith}
+use lib.Dec.{ltb}
+use borrow.Author.Tests.{ltb-true, lt-ltb}
+use Rattle.marks.specs.Marks.{marked}
+use Rattle.tables.specs.Table.{Table}
+use Rattle.tables.specs.Plan.{planOf}
+use Rattle.response.specs.Test.{horizon, Active, Response, ResponseOf, above, blocking}
+use Rattle.periods.specs.Found.{ActiveWithin}
+use Rattle.counting.proofs.Cases.{and-left}
+use Rattle.response.proofs.Plans.{blocking-is, longest-cases, plan-active, plan-bounded}
+use Rattle.responses.specs.Asked.{Above, Blocks, Planned}
+use Rattle.responses.proofs.Same.{Agree, agree-sym, active-same, response-same}
+
+-- row i of the plan that stands in ps has the rows of the set above it, and the blocking b
+pub record Placed (tb : Table) (ps : List ℕ) (i set b : ℕ) : Type 0 where
+  pub planned : Planned tb ps
+  pub row : i < tb .n
+  pub over : Above (planOf ps) (tb .n) (planOf ps .rank i) set
+  pub under : Blocks (planOf ps) (tb .n) (planOf ps .rank i) b
+
+module _ {tb : Table} {ps : List ℕ} {i set b : ℕ} (p : Placed tb ps i set b) where
+  abbrev P : ℕ → Bool
+  P = above (planOf ps) (planOf ps .rank i)
+
+  pub set-inside : (j : ℕ) → marked set j ≡ true → j < tb .n
+  set-inside j e = ltb-true j (tb .n) (and-left (ltb j (tb .n)) (P j) (sym (p .over j) ∙ e))
+
+  agree : Agree tb (marked set) P
+  agree j h = p .over j ∙ rw (lt-ltb j (tb .n) h)
+
+  blocked : b ≡ blocking tb (planOf ps) (planOf ps .rank i)
+  blocked = p .under tb refl
+
+  pub blocking-small : b ≤ horizon
+  blocking-small =
+      let none = blocking-is tb (planOf ps) (planOf ps .rank i) in
+      longest-cases tb (planOf ps) (planOf ps .rank i)
+      (λ e. omega (arith, blocked, none))
+      (λ j h _ e. omega (arith, blocked, none, p .planned .plan .len-high j h, p .planned .sound .C j h .high))
+
+  pub active-here : ActiveWithin tb (marked set) b i 1
+  active-here =
+      let a = plan-active tb (p .planned .sound) (p .planned .busy) (planOf ps) (p .planned .plan) i (p .row) in
+      record {
+        period = a .0;
+        active =
+            active-same tb P (marked set) b i (agree-sym tb (marked set) P agree)
+            (subst (λ x. Active tb P x i (a .0)) (sym blocked) (a .1));
+        within = a .2;
+        some = omega arith;
+        lower = a .1 .low;
+      }
+
+  pub response-here : {R : ℕ} → Response tb (marked set) b i (planOf ps .len i) R → ResponseOf tb (planOf ps) i R
+  response-here {R} x =
+      subst (λ z. Response tb P z i (planOf ps .len i) R) blocked
+      (response-same tb (marked set) P b i (planOf ps .len i) R agree x)
+
+  pub response-small : {R : ℕ} → Response tb (marked set) b i (planOf ps .len i) R → R ≤ horizon
+  response-small {R} x =
+      plan-bounded tb (p .planned .sound) (p .planned .busy) (planOf ps) (p .planned .plan) i (p .row) R (response-here x) .high

@@ -1,0 +1,99 @@
+-- `blocking_of` meets its contract: the longest length below, of the rows passed. Assumes nothing.
+use Prim.Native.Nat.{pred, ℕ, _≤_, _+_, _*_, _-_}
+use mathlib.Core.Logic.{⊎-elim}
+use mathlib.Core.Path.{_≡_, sym, ap, _∙_}
+use native.Mathlib.Omega.{arith}
+use borrow.Author.Needs.{needs}
+use Rattle.tables.specs.Plan.{planOf}
+use Rattle.responses.specs.Asked.{Blocks}
+use Rattle.responses.proofs.Plans.{longest-in, longest-none, longest-more, longest-same, blocking-in}
+use Rattle.responses.proofs.blocking_of.Statement.{statement}
+use Rattle.responses.proofs.blocking_of.Tie as tie
+
+abbrev Inv-loop : tie.InvT-loop
+Inv-loop plan n rank longest₀ i₀ longest i = (i ≤ n) × (longest ≡ longest-in (planOf plan) rank i)
+
+abbrev μ-loop : tie.MeasureT-loop
+μ-loop plan n rank longest₀ i₀ longest i = n - i
+
+loop-holds : tie.Need-loop-holds Inv-loop μ-loop
+loop-holds c = (search needs, sym (longest-none (planOf (c .args .plan .now)) (c .args .rank)))
+
+mul-at : tie.Need-mul-at Inv-loop μ-loop
+mul-at c = search needs
+
+mul-if1 : tie.Need-mul-if1 Inv-loop μ-loop
+mul-if1 c = search needs
+
+shared-slice-read-if1 : tie.Need-shared-slice-read-if1 Inv-loop μ-loop
+shared-slice-read-if1 c = search needs
+
+add-len : tie.Need-add-len Inv-loop μ-loop
+add-len c = search needs
+
+mul-len : tie.Need-mul-len Inv-loop μ-loop
+mul-len c = search needs
+
+shared-slice-read-len : tie.Need-shared-slice-read-len Inv-loop μ-loop
+shared-slice-read-len c = search needs
+
+cast-len : tie.Need-cast-len Inv-loop μ-loop
+cast-len c = omega (arith, c .shared-slice-known2 .given (2 * c .before .before .before .before .loop .i + 1))
+
+add-i : tie.Need-add-i Inv-loop μ-loop
+add-i c = search needs
+
+loop-less : tie.Need-loop-less Inv-loop μ-loop
+loop-less c = search needs
+
+loop-again : tie.Need-loop-again Inv-loop μ-loop
+loop-again c =
+    let a = c .before .before .before .before .args in
+    let i = c .before .before .before .loop .i in
+    let more = longest-more (planOf (a .plan .now)) (a .rank) i in
+    let same = longest-same (planOf (a .plan .now)) (a .rank) i in (
+      search needs,
+      ⊎-elim
+          (λ w. omega (arith, more (w .0 .taken), w .2 .taken, w .3))
+          (⊎-elim (λ w. omega (arith, more (w .0 .taken), w .2 .left, w .3)) (λ w. omega (arith, same (w .0 .left), w .1)))
+          (c .if1 .came),
+    )
+
+-- all rows are passed
+blocked : (c : tie.After-loop Inv-loop μ-loop) (b : ℕ) → b ≡ pred (c .before .loop .longest) →
+    Blocks (planOf (c .before .before .args .plan .now)) (c .before .before .args .n) (c .before .before .args .rank) b
+blocked c b e =
+    let a = c .before .before .args in
+    let here = c .before .loop in
+    let all : here .i ≡ a .n = omega arith in
+    blocking-in (planOf (a .plan .now)) (a .rank) (a .n) b (e ∙ ap pred (here .inv .1) ∙ ap (λ m. pred (longest-in (planOf (a .plan .now)) (a .rank) m)) all)
+
+returns : tie.Need-returns Inv-loop μ-loop
+returns c = blocked (c .before) 0 (let t = c .if3 .taken in omega arith)
+
+sub-result : tie.Need-sub-result Inv-loop μ-loop
+sub-result c = search needs
+
+returns-2 : tie.Need-returns-2 Inv-loop μ-loop
+returns-2 c = blocked (c .before) _ (omega arith)
+
+pub blocking-of-spec : {M : Type 1} → statement M
+blocking-of-spec =
+    tie.close
+    (tie.spec
+    Inv-loop
+    μ-loop
+    loop-holds
+    mul-at
+    mul-if1
+    shared-slice-read-if1
+    add-len
+    mul-len
+    shared-slice-read-len
+    cast-len
+    add-i
+    loop-less
+    loop-again
+    returns
+    sub-result
+    returns-2)

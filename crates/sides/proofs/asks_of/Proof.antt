@@ -1,0 +1,75 @@
+-- `asks_of` meets its contract: the rows passed have stored theirs, two numbers a row. Assumes nothing.
+use Prim.Native.Nat.{_≤_, _-_}
+use mathlib.Core.Path.{_≡_, refl}
+use native.Mathlib.Omega.{arith}
+use borrow.Author.Needs.{needs}
+use Rattle.sides.proofs.Asks.{Stored, stored-more, stored-all}
+use Rattle.sides.proofs.asks_of.Statement.{statement}
+use Rattle.sides.proofs.asks_of.Tie as tie
+
+abbrev Inv-loop : tie.InvT-loop
+Inv-loop rows asks₀ i₀ asks i = (i ≤ 32) × Stored rows asks i
+
+abbrev μ-loop : tie.MeasureT-loop
+μ-loop rows asks₀ i₀ asks i = 32 - i
+
+loop-holds : tie.Need-loop-holds Inv-loop μ-loop
+loop-holds c = (search needs, record { whole = refl; runs = λ k h. absurd (omega arith); spacings = λ k h. absurd (omega arith) })
+
+mul-row : tie.Need-mul-row Inv-loop μ-loop
+mul-row c = search needs
+
+array-copy-out-row : tie.Need-array-copy-out-row Inv-loop μ-loop
+array-copy-out-row c = search needs
+
+mul-at : tie.Need-mul-at Inv-loop μ-loop
+mul-at c = search needs
+
+mul-asks : tie.Need-mul-asks Inv-loop μ-loop
+mul-asks c = search needs
+
+array-write-asks : tie.Need-array-write-asks Inv-loop μ-loop
+array-write-asks c = search needs
+
+add-asks : tie.Need-add-asks Inv-loop μ-loop
+add-asks c = search needs
+
+mul-asks-2 : tie.Need-mul-asks-2 Inv-loop μ-loop
+mul-asks-2 c = search needs
+
+array-write-asks-2 : tie.Need-array-write-asks-2 Inv-loop μ-loop
+array-write-asks-2 c = search needs
+
+add-i : tie.Need-add-i Inv-loop μ-loop
+add-i c = search needs
+
+loop-less : tie.Need-loop-less Inv-loop μ-loop
+loop-less c = search needs
+
+loop-again : tie.Need-loop-again Inv-loop μ-loop
+loop-again c = (search needs, stored-more (c .before .before .before .args .t1) (c .before .before .loop .asks) (c .before .before .loop .i) (c .before .loop-test .taken) (c .before .before .loop .inv .1))
+
+returns : tie.Need-returns Inv-loop μ-loop
+returns c =
+    let e : c .before .loop .i ≡ 32 = omega arith in
+    stored-all (c .before .before .args .t1) (c .before .loop .asks) (search needs) (rw e at (c .before .loop .inv .1))
+
+pub asks-of-spec : {M : Type 1} → statement M
+asks-of-spec =
+    tie.close
+    (tie.spec
+    Inv-loop
+    μ-loop
+    loop-holds
+    mul-row
+    array-copy-out-row
+    mul-at
+    mul-asks
+    array-write-asks
+    add-asks
+    mul-asks-2
+    array-write-asks-2
+    add-i
+    loop-less
+    loop-again
+    returns)

@@ -1,0 +1,93 @@
+-- `start_side` meets its contract: what is asked for up to and with s is what is asked for before s + 1. Assumes nothing.
+use Prim.Native.Nat.{_≤_, _+_, _*_}
+use mathlib.Core.Path.{ap}
+use native.Mathlib.Nat.{mul-le-mul, mul-le-mul-right}
+use native.Mathlib.Numerals.{add-one}
+use native.Mathlib.Omega.{arith}
+use borrow.Author.Needs.{needs}
+use Rattle.marks.specs.Marks.{marked}
+use Rattle.tables.specs.Table.{Table}
+use Rattle.sides.specs.Asks.{askingIn}
+use Rattle.response.specs.Test.{before, load}
+use Rattle.response.proofs.Load.{sound-positive, load-upto}
+use Rattle.response.proofs.Sides.{start-side-is}
+use Rattle.sides.proofs.Small.{most-asked, load-small}
+use Rattle.sides.proofs.start_side.Statement.{statement}
+use Rattle.sides.proofs.start_side.Tie as tie
+
+-- k whole runs, and what the rows above ask for
+module _ (s : tie.Start) where
+  abbrev tb : Table
+  tb = askingIn (s .args .asks .now) (s .args .n)
+
+  runs-small : s .args .k * tb .C (s .args .i) ≤ 1000000 * 1000000
+  runs-small = mul-le-mul {n₂ = 1000000} {m₂ = 1000000} (s .pre .5) (s .pre .0 .sound .C (s .args .i) (s .pre .2) .high)
+
+  whole : s .args .q ≤ s .args .k * tb .C (s .args .i)
+  whole = omega (arith, s .pre .3, mul-le-mul-right (tb .C (s .args .i)) (s .pre .4))
+
+others : (c : tie.After-load) → c .load .result ≤ 32 * most-asked
+others c =
+    let s = c .before .before in
+    let h = s .pre .6 in
+    rw (c .load .ensures) (load-small (tb s) (s .pre .0 .sound) _ (omega arith) (marked (s .args .above)))
+
+mul-at : tie.Need-mul-at
+mul-at c = search needs
+
+mul-result : tie.Need-mul-result
+mul-result c = search needs
+
+element-copy-out-result : tie.Need-element-copy-out-result
+element-copy-out-result c = search needs
+
+cast-result : tie.Need-cast-result
+cast-result c = let s = c .before in omega (arith, s .pre .0 .sound .C (s .args .i) (s .pre .2) .high)
+
+mul-result-2 : tie.Need-mul-result-2
+mul-result-2 c = omega (arith, runs-small (c .before))
+
+sub-result : tie.Need-sub-result
+sub-result c = omega (arith, whole (c .before))
+
+add-result : tie.Need-add-result
+add-result c = omega (arith, runs-small (c .before))
+
+add-load : tie.Need-add-load
+add-load c = search needs
+
+load-requires : tie.Need-load-requires
+load-requires c κs = search needs
+
+add-result-2 : tie.Need-add-result-2
+add-result-2 c =
+    let s = c .before .before in
+    omega (arith, runs-small s, others c)
+
+returns : tie.Need-returns
+returns c =
+    let s = c .before .before in
+    let P = marked (s .args .above) in
+    omega (
+      arith,
+      c .load .ensures,
+      ap (load before (tb s) P) (add-one (s .args .s)),
+      load-upto (tb s) (sound-positive (tb s) (s .pre .0 .sound)) P (s .args .s),
+      start-side-is (tb s) P (s .args .b) (s .args .i) (s .args .q) (s .args .k) (s .args .s),
+    )
+
+pub start-side-spec : {M : Type 1} → statement M
+start-side-spec =
+    tie.close
+    (tie.spec
+    mul-at
+    mul-result
+    element-copy-out-result
+    cast-result
+    mul-result-2
+    sub-result
+    add-result
+    add-load
+    load-requires
+    add-result-2
+    returns)

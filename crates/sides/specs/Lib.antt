@@ -1,0 +1,3 @@
+-- The definitions of the crate `sides`.
+pub mod Asks
+pub mod Level

@@ -1,0 +1,106 @@
+// The operations times and verdict: the checks in their order, then the responses of the plan's rows.
+ghost use mathlib.Core.List.{[]};
+ghost use Prim.Native.Nat.{_≤_};
+ghost use lib.ListN.{length};
+ghost use Rattle.tables.specs.Table.{Sound, most-rows};
+ghost use Rattle.tables.specs.Rows.{tableIn};
+ghost use Rattle.tables.specs.Answer.{resultOf};
+ghost use Rattle.tables.specs.Checked.{Says};
+ghost use Rattle.response.specs.Answers.{TimesAnswer, VerdictAnswer};
+ghost use Rattle.times.specs.Given.{Written, InTime, TimesRest, VerdictRest};
+use periods::Busy;
+use tables::Answer;
+use tables::PlanCheck;
+use tables::Row;
+use tables::TableCheck;
+
+// The first n of the times into the front of the output, row by row.
+fn write(times: [u32; 32], n: usize, out: &mut [u32])
+    requires { ⌜ (n ≤ most-rows) × (n ≤ length (now out)) ⌝ }
+    ensures { λ _. ⌜ Written times n (now (out .entry)) (now (out .exit)) ⌝ }
+{
+    let mut i: usize = 0;
+    while i < n {
+        out[i] = times[i];
+        i += 1;
+    }
+}
+
+// Whether each of the first n times is at most its row's deadline.
+fn in_time(rows: [Row; 32], n: usize, times: [u32; 32]) -> bool
+    requires { ⌜ n ≤ most-rows ⌝ }
+    ensures { λ r. ⌜ Says r (InTime (tableIn rows n) times) ⌝ }
+{
+    let mut i: usize = 0;
+    while i < n {
+        let row = rows[i];
+        if row.d < times[i] {
+            return false;
+        }
+        i += 1;
+    }
+    true
+}
+
+// times, once the table is sound: the checks 6, 2 and 4, then the times. Nothing is written before all checks are made.
+fn times_of(rows: [Row; 32], n: usize, plan: &[u32], out: &mut [u32]) -> Answer
+    requires { ⌜ Sound (tableIn rows n) ⌝ }
+    ensures { λ r. ⌜ TimesRest (tableIn rows n) (now (plan .entry)) (now (out .entry)) (resultOf r (now (out .exit))) ⌝ }
+{
+    let form = tables::check_plan(rows, n, plan);
+    if let PlanCheck::AtFault(at) = form {
+        return Answer::Plan(at);
+    }
+    if out.len() < n {
+        return Answer::Room;
+    }
+    let busy = periods::busy_period(rows, n);
+    if let Busy::Beyond = busy {
+        return Answer::NoBusy;
+    }
+    write(responses::responses(rows, n, plan), n, out);
+    Answer::Given(n as u32)
+}
+
+// verdict, once the table is sound: the checks 6 and 4, then the times against the deadlines.
+fn verdict_of(rows: [Row; 32], n: usize, plan: &[u32]) -> Answer
+    requires { ⌜ Sound (tableIn rows n) ⌝ }
+    ensures { λ r. ⌜ VerdictRest (tableIn rows n) (now (plan .entry)) (resultOf r []) ⌝ }
+{
+    let form = tables::check_plan(rows, n, plan);
+    if let PlanCheck::AtFault(at) = form {
+        return Answer::Plan(at);
+    }
+    let busy = periods::busy_period(rows, n);
+    if let Busy::Beyond = busy {
+        return Answer::NoBusy;
+    }
+    if in_time(rows, n, responses::responses(rows, n, plan)) {
+        return Answer::Given(1);
+    }
+    Answer::Given(0)
+}
+
+// The response of each row of the plan, one number a row.
+pub fn times(table: &[u32], plan: &[u32], out: &mut [u32]) -> Answer
+    ensures { λ r. ⌜ TimesAnswer (now (table .entry)) (now (plan .entry)) (now (out .entry)) (resultOf r (now (out .exit))) ⌝ }
+{
+    let checked = tables::check_table(table);
+    match checked {
+        TableCheck::Shape => Answer::Shape,
+        TableCheck::Range(at) => Answer::Range(at),
+        TableCheck::Sound(n) => times_of(tables::rows_of(table, n), n, plan, out),
+    }
+}
+
+// 1 where every response is at most its deadline, and 0 where one is not.
+pub fn verdict(table: &[u32], plan: &[u32]) -> Answer
+    ensures { λ r. ⌜ VerdictAnswer (now (table .entry)) (now (plan .entry)) (resultOf r []) ⌝ }
+{
+    let checked = tables::check_table(table);
+    match checked {
+        TableCheck::Shape => Answer::Shape,
+        TableCheck::Range(at) => Answer::Range(at),
+        TableCheck::Sound(n) => verdict_of(tables::rows_of(table, n), n, plan),
+    }
+}
