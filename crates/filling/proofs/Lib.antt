@@ -1,0 +1,3 @@
+-- The laws of the crate `filling`.
+pub mod Timed
+pub mod Going

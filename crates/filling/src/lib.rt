@@ -1,0 +1,49 @@
+// The ranks filled from n down to 1: one search a rank, until every row is placed or no row has a passing length.
+ghost use Rattle.tables.specs.Table.{Sound};
+ghost use Rattle.tables.specs.Rows.{tableIn};
+ghost use Rattle.response.specs.Test.{BusyWithin};
+ghost use Rattle.filling.specs.Ended.{Ended};
+use search::Pick;
+use tables::PLAN_WIDTH;
+use tables::Row;
+
+// The plan, two numbers a row as `times` takes it; each placed row's response; and the rank at which no row had a passing length, 0 where
+// every rank was filled.
+pub struct Filling {
+    pub stopped: u32,
+    pub plan: [u32; 64],
+    pub times: [u32; 32],
+}
+
+// The rank being filled is the number of rows that are not placed. The rows to try are these rows.
+pub fn fill(rows: [Row; 32], n: usize) -> Filling
+    requires { ⌜ Sound (tableIn rows n) × BusyWithin (tableIn rows n) ⌝ }
+    ensures { λ r. ⌜ Ended (tableIn rows n) (r .plan) (r .times) (r .stopped) ⌝ }
+{
+    let mut plan = [0u32; 64];
+    let mut times = [0u32; 32];
+    let mut unplaced = marks::whole(n as u32);
+    let mut blocking: u64 = 0;
+    let stopped = loop {
+        if unplaced == 0 {
+            break 0;
+        }
+        let rank = marks::size(unplaced);
+        let pick = search::choose(rows, n, unplaced, unplaced, blocking);
+        let Pick::Taken(row, len, response) = pick else {
+            break rank;
+        };
+        let i = row as usize;
+        let at = PLAN_WIDTH * i;
+        plan[at] = rank;
+        plan[at + 1] = len;
+        times[i] = response;
+        blocking = search::larger(blocking, (len - 1) as u64);
+        unplaced = marks::less(unplaced, row);
+    };
+    Filling {
+        stopped: stopped,
+        plan: plan,
+        times: times,
+    }
+}

@@ -1,0 +1,60 @@
+-- Any two answers that the promise of `plan` allows are equal. Assumes nothing.
+use Prim.Native.Nat.{ℕ, _+_, _*_, _/_, _<_}
+use mathlib.Core.Path.{_≡_, sym, ap, _∙_}
+use mathlib.Core.List.{List, [], _∷_}
+use native.Mathlib.Omega.{arith}
+use lib.ListN.{getD}
+use lib.Seq.{ext-getD}
+use Rattle.counting.proofs.Cases.{by-le, by-eq}
+use Rattle.tables.specs.Table.{Table, tableOf}
+use Rattle.tables.specs.Checks.{shape, range, room}
+use Rattle.tables.specs.Refusal.{Result}
+use Rattle.tables.proofs.Answered.{OnePlace, answered-unique, same-rest, shape-place, range-place, room-place}
+use Rattle.tables.proofs.Clear.{sound-of-clear}
+use Rattle.response.specs.Answers.{no-busy}
+use Rattle.response.proofs.Load.{Positive, sound-positive}
+use Rattle.response.proofs.Response.{response-unique}
+use Rattle.times.proofs.Unique.{no-busy-place}
+use Rattle.ranks.specs.Answers.{plannedOf, responseIn, no-plan, PlanGiven, PlanAnswer}
+use Rattle.ranks.proofs.Filled.{Same, chosen-unique}
+use Rattle.plan.proofs.Answers.{response-plans}
+
+no-plan-place : (tb : Table) → OnePlace (no-plan tb)
+no-plan-place tb a b h g = h .0 ∙ sym (g .0)
+
+module _ (tb : Table) (out : List ℕ) (pos : Positive tb) (v w : ℕ) (l m : List ℕ) (a : PlanGiven tb out v l) (b : PlanGiven tb out w m) where
+  same-plan : Same tb (plannedOf l) (plannedOf m)
+  same-plan = chosen-unique tb (plannedOf l) (plannedOf m) pos (a .chosen) (b .chosen)
+
+  same-response : (i : ℕ) → i < tb .n → responseIn l i ≡ responseIn m i
+  same-response i h =
+      response-unique tb _ _ i _ (responseIn l i) (responseIn m i)
+      (response-plans tb (plannedOf l) (plannedOf m) i (responseIn l i) same-plan h (a .responses i h)) (b .responses i h)
+
+  -- a number of the planned rows is a rank, a length or a response
+  same-front : (k : ℕ) → k < 3 * tb .n → getD l k 0 ≡ getD m k 0
+  same-front k h =
+      let i = k / 3 in
+      let g : i < tb .n = omega arith in
+      by-eq k (3 * i)
+      (λ e. ap (λ x. getD l x 0) e ∙ same-plan i g .0 ∙ ap (λ x. getD m x 0) (sym e))
+      (λ c.
+      by-eq k (3 * i + 1)
+      (λ e. ap (λ x. getD l x 0) e ∙ same-plan i g .1 ∙ ap (λ x. getD m x 0) (sym e))
+      (λ d.
+      let e : k ≡ 3 * i + 2 = omega arith in
+      ap (λ x. getD l x 0) e ∙ same-response i g ∙ ap (λ x. getD m x 0) (sym e)))
+
+  plan-given-one : (v ≡ w) × (l ≡ m)
+  plan-given-one = (
+    a .many ∙ sym (b .many),
+    ext-getD 0 l m (a .whole ∙ sym (b .whole))
+        (λ k _. by-le (3 * tb .n) k (λ h. same-rest (3 * tb .n) l m (a .rest ∙ sym (b .rest)) k h) (λ h. same-front k h)),
+  )
+
+pub plan-unique : (xs out : List ℕ) (r s : Result) → PlanAnswer xs out r → PlanAnswer xs out s → r ≡ s
+plan-unique xs out r s x y =
+    let tb = tableOf xs in
+    answered-unique (shape xs ∷ range xs ∷ room (3 * tb .n) out ∷ no-busy tb ∷ no-plan tb ∷ []) (PlanGiven tb out) out r s
+    (shape-place xs, (range-place xs, (room-place (3 * tb .n) out, (no-busy-place tb, (no-plan-place tb, tt)))))
+    (λ clear. plan-given-one tb out (sound-positive tb (sound-of-clear xs (clear .0) (clear .1 .0)))) x y

@@ -1,0 +1,91 @@
+-- `plan` meets its contract: the checks 1 and 3, then the rest over the rows. Assumes nothing.
+use Prim.Native.Nat.{ℕ, _*_}
+use mathlib.Core.Path.{subst, _≡_, sym}
+use mathlib.Core.List.{List}
+use native.Mathlib.Omega.{arith}
+use lib.ListN.{length}
+use borrow.Author.Needs.{needs}
+use Rattle.tables.specs.Table.{Sound, row-width, tableOf}
+use Rattle.tables.specs.Refusal.{Clear}
+use Rattle.tables.specs.Rows.{tableIn}
+use Rattle.tables.specs.Answer.{resultOf}
+use Rattle.tables.specs.Checks.{shape, range}
+use Rattle.tables.specs.Checked.{TableChecked}
+use Rattle.tables.proofs.Clear.{sound-of-clear}
+use Rattle.plan.proofs.Answers.{plan-shape, plan-range, plan-rest}
+use Rattle.plan.proofs.plan.Statement.{statement}
+use Rattle.plan.proofs.plan.Tie as tie
+
+check-table-requires : tie.Need-check-table-requires
+check-table-requires c κs = search needs
+
+enum-told : tie.Need-enum-told
+enum-told c = search needs
+
+enum-known-checked : tie.Need-enum-known-checked
+enum-known-checked c = search needs
+
+enum-known-checked-2 : tie.Need-enum-known-checked-2
+enum-known-checked-2 c = search needs
+
+-- the table is sound
+module _ (c : tie.After-known-told2) where
+  abbrev start : tie.Start
+  start = c .before .before .before .before .before .before
+
+  abbrev xs : List ℕ
+  xs = start .args .table .now
+
+  abbrev n : ℕ
+  n = c .before .checked2 .given .0 .0
+
+  clear : Clear (shape xs) × Clear (range xs) × (length xs ≡ row-width * n)
+  clear = subst (TableChecked xs) (c .before .checked2 .given .1) (c .before .before .before .check-table .ensures)
+
+  sound : Sound (tableOf xs)
+  sound = sound-of-clear xs (clear .0) (clear .1)
+
+rows-of-requires : tie.Need-rows-of-requires
+rows-of-requires c κs = let e = clear c .2 in let f = sound c .few in (omega arith, e)
+
+plan-of-requires : tie.Need-plan-of-requires
+plan-of-requires c κs = subst Sound (sym (c .before .rows-of .ensures)) (sound (c .before .before))
+
+returns : tie.Need-returns
+returns c =
+    let e = c .before .before in
+    let s = e .before .before .before in
+    plan-shape (s .args .table .now) (s .args .out .now) (subst (TableChecked (s .args .table .now)) (c .enum-told .given .1) (e .check-table .ensures))
+
+returns-2 : tie.Need-returns-2
+returns-2 c =
+    let e = c .before .before .before in
+    let s = e .before .before .before in
+    let h = subst (TableChecked (s .args .table .now)) (c .before .checked .given .1) (e .check-table .ensures) in
+    plan-range (s .args .table .now) (s .args .out .now) (c .before .checked .given .0 .0) (h .0) (h .1)
+
+same-length : tie.Need-same-length
+same-length c = search needs
+
+returns-3 : tie.Need-returns-3
+returns-3 c =
+    let t = c .before .before in
+    let r = t .before .before in
+    let k = r .before in
+    plan-rest (xs k) (start k .args .out .now) (tableIn (r .rows-of .result) (n k)) (resultOf (t .plan-of .result) (t .plan-of .last .1 .1 .0)) (clear k .0) (clear k .1)
+    (r .rows-of .ensures) (t .plan-of .ensures)
+
+pub plan-spec : {M : Type 1} → statement M
+plan-spec =
+    tie.close
+    (tie.spec
+    check-table-requires
+    enum-told
+    enum-known-checked
+    enum-known-checked-2
+    rows-of-requires
+    plan-of-requires
+    returns
+    returns-2
+    same-length
+    returns-3)

@@ -1,0 +1,115 @@
+-- `plan_of` meets its contract: the checks 2 and 4, the filling and its stop, then the parts. Assumes nothing.
+use Prim.Native.Nat.{ℕ, _*_, _≤_}
+use mathlib.Core.Path.{sym, subst}
+use mathlib.Core.List.{List}
+use mathlib.Core.Logic.{⊎-elim}
+use native.Mathlib.Omega.{arith}
+use lib.ListN.{length}
+use borrow.Author.Needs.{needs}
+use Rattle.tables.specs.Table.{Table}
+use Rattle.tables.specs.Rows.{tableIn}
+use Rattle.response.specs.Test.{BusyWithin}
+use Rattle.periods.specs.Found.{BusyFound}
+use Rattle.tables.specs.Answer.{resultOf}
+use Rattle.tables.specs.declared.Answer.the-variants.{Given}
+use Rattle.plan.specs.Given.{PlanRest}
+use Rattle.plan.proofs.Answers.{plan-room, plan-busy, plan-stopped, plan-given}
+use Rattle.plan.proofs.plan_of.Statement.{statement}
+use Rattle.plan.proofs.plan_of.Tie as tie
+
+module _ (s : tie.Start) where
+  abbrev tb : Table
+  tb = tableIn (s .args .rows) (s .args .n)
+
+  abbrev o : List ℕ
+  o = s .args .out .now
+
+-- there is room, and a busy period
+module _ (c : tie.After-enum-told2) where
+  abbrev S : tie.Start
+  S = c .before .before .before .before .before
+
+  roomy : 3 * S .args .n ≤ length (o S)
+  roomy = c .before .before .before .if1 .left
+
+  busy : BusyWithin (tb S)
+  busy =
+      let f = subst (BusyFound (tb S)) (c .enum-told2 .given .1) (c .before .before .busy-period .ensures) in
+      record { period = c .enum-told2 .given .0 .0; busy = f .0; within = f .1 }
+
+mul-if1 : tie.Need-mul-if1
+mul-if1 c = search needs
+
+returns : tie.Need-returns
+returns c = let s = c .before .before in plan-room (tb s) (o s) (c .if1 .taken)
+
+busy-period-requires : tie.Need-busy-period-requires
+busy-period-requires c κs = search needs
+
+enum-told : tie.Need-enum-told
+enum-told c = search needs
+
+returns-2 : tie.Need-returns-2
+returns-2 c =
+    let b = c .before .before in
+    let s = b .before .before .before in
+    plan-busy (tb s) (o s) (b .before .if1 .left) (subst (BusyFound (tb s)) (c .enum-told .given .1) (b .busy-period .ensures))
+
+enum-told-2 : tie.Need-enum-told-2
+enum-told-2 c = search needs
+
+fill-requires : tie.Need-fill-requires
+fill-requires c κs = (S c .pre, busy c)
+
+returns-3 : tie.Need-returns-3
+returns-3 c =
+    let f = c .before .before in
+    let e = f .before in
+    let s = S e in
+    plan-stopped (tb s) (o s) (roomy e) (busy e)
+    (⊎-elim (λ x. absurd (c .if2 .taken (x .0))) (λ x. x .0) (f .fill .ensures))
+
+write-requires : tie.Need-write-requires
+write-requires c κs = let e = c .before .before .before .before .before .before in (S e .pre .few, roomy e)
+
+mul-t8 : tie.Need-mul-t8
+mul-t8 c = search needs
+
+cast-t14 : tie.Need-cast-t14
+cast-t14 c = search needs
+
+same-length : tie.Need-same-length
+same-length c = search needs
+
+returns-4 : tie.Need-returns-4
+returns-4 c =
+    let w = c .before .before in
+    let g = w .before .before .before .before in
+    let f = g .before .before in
+    let e = f .before in
+    let s = S e in
+    let r = f .fill .result in
+    ⊎-elim
+    (λ x.
+    subst (λ (l : List ℕ). PlanRest (tb s) (o s) (resultOf (Given (3 * s .args .n)) l)) (sym (w .write .ensures))
+    (plan-given (tb s) (o s) (roomy e) (busy e) (s .pre) (r .plan) (r .times) (x .1) (x .2)))
+    (λ x. absurd (omega (arith, x .0 .low, x .2, g .if2 .left)))
+    (f .fill .ensures)
+
+pub plan-of-spec : {M : Type 1} → statement M
+plan-of-spec =
+    tie.close
+    (tie.spec
+    mul-if1
+    returns
+    busy-period-requires
+    enum-told
+    returns-2
+    enum-told-2
+    fill-requires
+    returns-3
+    write-requires
+    mul-t8
+    cast-t14
+    same-length
+    returns-4)

@@ -1,0 +1,126 @@
+// The search for one rank: the unplaced row with the least shortest passing length, the earliest among equals.
+ghost use mathlib.Core.Path.{_≡_};
+ghost use Prim.Native.Nat.{_+_, _-_, min, max, _≤_, _<_};
+ghost use Rattle.marks.specs.Marks.{marked};
+ghost use Rattle.tables.specs.Table.{most};
+ghost use Rattle.tables.specs.Rows.{tableIn};
+ghost use Rattle.search.specs.Choose.{Searchable, Picked};
+use tables::Row;
+
+// The row that takes the rank, with its length and its response; or nothing, where no row has a passing length.
+pub enum Pick {
+    Taken(u32, u32, u32),
+    Nothing,
+}
+
+pub fn larger(a: u64, b: u64) -> u64
+    ensures { λ r. ⌜ r ≡ max a b ⌝ }
+{
+    if a < b {
+        return b;
+    }
+    a
+}
+
+// The longest length worth a try: the least of C and the best length so far less 1. A row that cannot beat the best cannot take the rank.
+fn cap_of(c: u64, best: u64) -> u64
+    ensures { λ r. ⌜ (best ≡ 0 → r ≡ c) × (1 ≤ best → r ≡ min c (best - 1)) ⌝ }
+{
+    if best == 0 {
+        return c;
+    }
+    if c < best {
+        return c;
+    }
+    best - 1
+}
+
+// The length to try next: the cap first, then the middle of what is left. Passing is closed upward in the length.
+fn next_length(low: u64, high: u64, cap: u64) -> u64
+    requires { ⌜ (high ≤ cap + 1) × (cap ≤ most) × (low ≤ high) ⌝ }
+    ensures { λ r. ⌜ (low < high → (low ≤ r) × (r < high)) ⌝ }
+{
+    if cap < high {
+        return cap;
+    }
+    low + (high - low) / 2
+}
+
+// The rows to try are given beside the unplaced ones. The active period, and what is asked for in its first tick, are the same for every
+// row of the level. No row is tried after one that takes the rank with length 1.
+pub fn choose(rows: [Row; 32], n: usize, unplaced: u32, tried: u32, blocking: u64) -> Pick
+    requires { ⌜ Searchable rows n unplaced tried blocking ⌝ }
+    ensures { λ r. ⌜ Picked (tableIn rows n) (marked unplaced) blocking (marked tried) r ⌝ }
+{
+    let asks = sides::asks_of(rows);
+    let first = marks::next(unplaced);
+    let others = marks::less(unplaced, first);
+    let least = sides::active_side(&asks, n, others, blocking, first as usize, 1);
+    let period = periods::active_period(&asks, n, others, blocking, first as usize, least);
+    let mut row: u32 = 0;
+    let mut best: u64 = 0;
+    let mut response: u64 = 0;
+    let mut rest = tried;
+    'rows: while rest != 0 {
+        let i = marks::next(rest);
+        rest = marks::less(rest, i);
+        let above = marks::less(unplaced, i);
+        let own = rows[i as usize];
+        let c = own.c as u64;
+        let t = own.t as u64;
+        let jobs = counting::round_up(period, t);
+        let cap = cap_of(c, best);
+        // No length below low passes; high passes with the response time, or lies past the cap.
+        let mut low: u64 = 1;
+        let mut high = cap + 1;
+        let mut time: u64 = 0;
+        let mut len: u64 = 1;
+        'lengths: while low < high {
+            let mut k: u64 = 1;
+            let mut largest: u64 = 0;
+            // The first job starts no sooner than after what the level asks for in its first tick, but for the job's own final region.
+            let mut s = least - len;
+            let passes = 'jobs: loop {
+                let released = (k - 1) * t;
+                let due = released + own.d as u64;
+                let start = loop {
+                    // Each value is a lower bound of the start: where it is too late, the job misses.
+                    if due < s + len {
+                        break 'jobs false;
+                    }
+                    let next = sides::start_side(&asks, n, above, blocking, i as usize, len, k, s);
+                    if next == s {
+                        break s;
+                    }
+                    s = next;
+                };
+                largest = larger(largest, start + len - released);
+                if k == jobs {
+                    break 'jobs true;
+                }
+                // The next job starts at least C later.
+                k += 1;
+                s = start + c;
+            };
+            if passes {
+                high = len;
+                time = largest;
+            } else {
+                low = len + 1;
+            }
+            len = next_length(low, high, cap);
+        }
+        if high <= cap {
+            row = i;
+            best = high;
+            response = time;
+            if high == 1 {
+                rest = 0;
+            }
+        }
+    }
+    if best == 0 {
+        return Pick::Nothing;
+    }
+    Pick::Taken(row, best as u32, response as u32)
+}
