@@ -1,0 +1,2 @@
+-- The definitions of the crate `wrong`.
+pub mod Versions

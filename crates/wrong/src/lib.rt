@@ -1,0 +1,1 @@
+// The wrong versions of plan that its promise rules out.
