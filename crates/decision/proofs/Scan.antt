@@ -1,0 +1,81 @@
+-- The scan over the rows for the foremost one: what is kept of the rows before row i. Assumes nothing.
+use Prim.Native.Nat.{ℕ, _+_, _≤_, _<_}
+use mathlib.Core.Path.{_≡_, refl}
+use mathlib.Core.Bool.{Bool, true, false, not}
+use mathlib.Core.Logic.{_⊎_, inl, inr, ⊎-elim}
+use mathlib.Core.List.{List}
+use native.Mathlib.Omega.{arith}
+use lib.ListN.{getD}
+use Rattle.counting.specs.Sum.{given}
+use Rattle.counting.proofs.Cases.{by-eq}
+use Rattle.tables.specs.Table.{Table}
+use Rattle.tables.specs.Plan.{Plan}
+use Rattle.kernel.specs.Rule.{locked}
+use Rattle.decision.specs.Decision.{urgency, Foremost}
+
+-- a row comes at its rank at the latest
+pub urgency-rank : (tb : Table) (p : Plan) (i e : ℕ) → urgency tb p i e ≤ p .rank i
+urgency-rank tb p i e = at-most (not (locked tb p i e)) (p .rank i)
+  where
+    at-most : (b : Bool) (x : ℕ) → given b x ≤ x
+    at-most true x = omega arith
+    at-most false x = omega arith
+
+-- it comes before every rank where its job runs on, and at its rank where it does not
+pub urgency-held : (tb : Table) (p : Plan) (i e : ℕ) → locked tb p i e ≡ true → urgency tb p i e ≡ 0
+urgency-held tb p i e h = rw h
+
+pub urgency-free : (tb : Table) (p : Plan) (i e : ℕ) → locked tb p i e ≡ false → urgency tb p i e ≡ p .rank i
+urgency-free tb p i e h = rw h
+
+-- `best` is the foremost of the rows before row i and `least` its urgency; where none waits, `best` is n and `least` stands above every rank
+pub record Scanned (tb : Table) (p : Plan) (heads done : List ℕ) (next above i best least : ℕ) : Type 0 where
+  pub high : i ≤ tb .n
+  pub low : (j : ℕ) → j < i → getD heads j 0 < next → least ≤ urgency tb p j (getD done j 0)
+  pub found :
+      ((best ≡ tb .n) × (least ≡ above))
+      ⊎ ((best < i) × (getD heads best 0 < next) × (least ≡ urgency tb p best (getD done best 0)))
+
+pub scan-none : (tb : Table) (p : Plan) (heads done : List ℕ) (next above : ℕ) → Scanned tb p heads done next above 0 (tb .n) above
+scan-none tb p heads done next above = record { high = omega arith; low = λ j h. absurd (omega arith); found = inl (refl, refl) }
+
+module _ {tb : Table} {p : Plan} {heads done : List ℕ} {next above i best least : ℕ}
+    (s : Scanned tb p heads done next above i best least) (l : i < tb .n) where
+  -- row i does not wait, or is no more urgent than the best
+  pub scan-keep : (getD heads i 0 < next → least ≤ urgency tb p i (getD done i 0)) →
+      Scanned tb p heads done next above (i + 1) best least
+  scan-keep h =
+      record {
+        high = omega arith;
+        low = λ j g w. by-eq j i (λ e. rw e (h (rw e at w))) (λ e. s .low j (omega arith) w);
+        found = ⊎-elim inl (λ f. inr (omega (arith, f .0), f .1, f .2)) (s .found);
+      }
+
+  pub scan-take : getD heads i 0 < next → urgency tb p i (getD done i 0) < least →
+      Scanned tb p heads done next above (i + 1) i (urgency tb p i (getD done i 0))
+  scan-take w h =
+      record {
+        high = omega arith;
+        low = λ j g v. by-eq j i (λ e. rw e (omega arith)) (λ e. omega (arith, s .low j (omega arith) v));
+        found = inr (omega arith, w, refl);
+      }
+
+pub scan-end : {tb : Table} {p : Plan} {heads done : List ℕ} {next above i best least : ℕ} →
+    Scanned tb p heads done next above i best least → i ≡ tb .n → ((j : ℕ) → j < tb .n → p .rank j < above) →
+    Foremost tb p heads done next best
+scan-end {tb} {p} {heads} {done} {next} {above} {i} {best} {least} s e ranks =
+    ⊎-elim
+    (λ (f : (best ≡ tb .n) × (least ≡ above)).
+    record {
+      high = omega (arith, f .0);
+      waits = λ h. absurd (omega (arith, f .0));
+      first =
+          λ j h w. absurd (omega (arith, s .low j (omega arith) w, f .1, ranks j h, urgency-rank tb p j (getD done j 0)));
+    })
+    (λ (f : (best < i) × (getD heads best 0 < next) × (least ≡ urgency tb p best (getD done best 0))).
+    record {
+      high = omega (arith, f .0);
+      waits = λ h. f .1;
+      first = λ j h w. (omega (arith, f .0), omega (arith, s .low j (omega arith) w, f .2));
+    })
+    (s .found)

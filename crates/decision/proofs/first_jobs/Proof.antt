@@ -1,0 +1,72 @@
+-- `first_jobs` meets its contract: the rows before row i have their first jobs.
+use Prim.Native.Nat.{ℕ, _≤_, _<_, _-_}
+use mathlib.Core.Path.{_≡_, refl}
+use native.Mathlib.Omega.{arith}
+use lib.ListN.{length, getD, length-set}
+use borrow.Author.Needs.{needs}
+use Rattle.counting.proofs.Cases.{by-eq}
+use lib.Seq.{getD-set-same, getD-set-other}
+use Rattle.tables.specs.Jobs.{jobsOf}
+use Rattle.decision.specs.Decision.{Following}
+use Rattle.decision.proofs.first_jobs.Statement.{statement}
+use Rattle.decision.proofs.first_jobs.Tie as tie
+
+abbrev Inv-loop : tie.InvT-loop
+Inv-loop jobs n heads₀ i₀ heads i =
+    (i ≤ n) × (length heads ≡ 32) × ((j : ℕ) → j < i → Following (jobsOf jobs) j 0 (getD heads j 0))
+
+abbrev μ-loop : tie.MeasureT-loop
+μ-loop jobs n heads₀ i₀ heads i = n - i
+
+loop-holds : tie.Need-loop-holds Inv-loop μ-loop
+loop-holds c = (omega arith, refl, λ j h. absurd (omega arith))
+
+cast-following : tie.Need-cast-following Inv-loop μ-loop
+cast-following c = search needs
+
+following-requires : tie.Need-following-requires Inv-loop μ-loop
+following-requires c κs = search needs
+
+mul-heads : tie.Need-mul-heads Inv-loop μ-loop
+mul-heads c = search needs
+
+array-write-heads : tie.Need-array-write-heads Inv-loop μ-loop
+array-write-heads c = search needs
+
+add-i : tie.Need-add-i Inv-loop μ-loop
+add-i c = search needs
+
+loop-less : tie.Need-loop-less Inv-loop μ-loop
+loop-less c = search needs
+
+loop-again : tie.Need-loop-again Inv-loop μ-loop
+loop-again c =
+    let l = c .before .before .loop in
+    let k = c .following .result in (
+      omega arith,
+      simp length-set (l .inv .1),
+      λ j h. by-eq j (l .i)
+          (λ e. rw e (rw (getD-set-same (l .heads) (l .i) k 0 (omega (arith, l .inv .1))) (c .following .ensures)))
+          (λ e. rw (getD-set-other (l .heads) (l .i) j k 0 e) (l .inv .2 j (omega arith))),
+    )
+
+returns : tie.Need-returns Inv-loop μ-loop
+returns c =
+    let l = c .before .loop in
+    record { places = l .inv .1; first = λ i h. l .inv .2 i (omega arith) }
+
+pub first-jobs-spec : {M : Type 1} → statement M
+first-jobs-spec =
+    tie.close
+    (tie.spec
+    Inv-loop
+    μ-loop
+    loop-holds
+    cast-following
+    following-requires
+    mul-heads
+    array-write-heads
+    add-i
+    loop-less
+    loop-again
+    returns)

@@ -1,0 +1,68 @@
+-- `following` meets its contract: no job from `from` to before job k is of row i.
+use Prim.Native.Nat.{ℕ, _≤_, _<_, _-_}
+use mathlib.Core.Path.{_≡_}
+use native.Mathlib.Omega.{arith}
+use borrow.Author.Needs.{needs}
+use Rattle.counting.proofs.Cases.{by-eq}
+use Rattle.tables.specs.Jobs.{jobsOf}
+use Rattle.decision.proofs.following.Statement.{statement}
+use Rattle.decision.proofs.following.Tie as tie
+
+abbrev Inv-loop : tie.InvT-loop
+Inv-loop jobs i from many k₀ k =
+    (from ≤ k) × (k ≤ many) × ((l : ℕ) → from ≤ l → l < k → jobsOf jobs .row l ≡ i → ⊥)
+
+abbrev μ-loop : tie.MeasureT-loop
+μ-loop jobs i from many k₀ k = many - k
+
+loop-holds : tie.Need-loop-holds Inv-loop μ-loop
+loop-holds c = (omega arith, omega arith, λ l a b. absurd (omega arith))
+
+mul-if1 : tie.Need-mul-if1 Inv-loop μ-loop
+mul-if1 c = search needs
+
+mul-if1-2 : tie.Need-mul-if1-2 Inv-loop μ-loop
+mul-if1-2 c = search needs
+
+shared-slice-read-if1 : tie.Need-shared-slice-read-if1 Inv-loop μ-loop
+shared-slice-read-if1 c = search needs
+
+returns : tie.Need-returns Inv-loop μ-loop
+returns c =
+    let l = c .before .before .before .loop in
+    record { low = l .inv .0; high = l .inv .1; is = λ h. c .if1 .taken; none = l .inv .2 }
+
+add-k : tie.Need-add-k Inv-loop μ-loop
+add-k c = search needs
+
+loop-less : tie.Need-loop-less Inv-loop μ-loop
+loop-less c = search needs
+
+loop-again : tie.Need-loop-again Inv-loop μ-loop
+loop-again c =
+    let l = c .before .before .before .loop in (
+      omega arith,
+      omega arith,
+      λ j a b e. by-eq j (l .k) (λ q. c .if1 .left (rw q at e)) (λ q. l .inv .2 j a (omega arith) e),
+    )
+
+returns-2 : tie.Need-returns-2 Inv-loop μ-loop
+returns-2 c =
+    let l = c .before .loop in
+    record { low = l .inv .0; high = l .inv .1; is = λ h. absurd (omega arith); none = l .inv .2 }
+
+pub following-spec : {M : Type 1} → statement M
+following-spec =
+    tie.close
+    (tie.spec
+    Inv-loop
+    μ-loop
+    loop-holds
+    mul-if1
+    mul-if1-2
+    shared-slice-read-if1
+    returns
+    add-k
+    loop-less
+    loop-again
+    returns-2)

@@ -1,0 +1,77 @@
+-- `foremost` meets its contract. The loop's invariant is `Scanned`.
+use Prim.Native.Nat.{_-_}
+use native.Mathlib.Omega.{arith}
+use borrow.Author.Needs.{needs}
+use mathlib.Core.Logic.{⊎-elim}
+use Rattle.tables.specs.Table.{tableOf}
+use Rattle.tables.specs.Plan.{planOf}
+use Rattle.decision.proofs.Scan.{Scanned, scan-none, scan-keep, scan-take, scan-end}
+use Rattle.decision.proofs.foremost.Statement.{statement}
+use Rattle.decision.proofs.foremost.Tie as tie
+
+abbrev Inv-loop : tie.InvT-loop
+Inv-loop table plan heads done next n best₀ least₀ i₀ best least i =
+    Scanned (tableOf table) (planOf plan) heads done next 33 i best least
+
+abbrev μ-loop : tie.MeasureT-loop
+μ-loop table plan heads done next n best₀ least₀ i₀ best least i = n - i
+
+loop-holds : tie.Need-loop-holds Inv-loop μ-loop
+loop-holds c = scan-none _ _ _ _ _ _
+
+mul-if1 : tie.Need-mul-if1 Inv-loop μ-loop
+mul-if1 c = search needs
+
+element-copy-out-if1 : tie.Need-element-copy-out-if1 Inv-loop μ-loop
+element-copy-out-if1 c = omega (arith, c .before .before .before .before .pre .0 .sound .few)
+
+mul-urgency-of : tie.Need-mul-urgency-of Inv-loop μ-loop
+mul-urgency-of c = search needs
+
+element-copy-out-urgency-of : tie.Need-element-copy-out-urgency-of Inv-loop μ-loop
+element-copy-out-urgency-of c = omega (arith, c .before .before .before .before .before .before .pre .0 .sound .few)
+
+urgency-of-requires : tie.Need-urgency-of-requires Inv-loop μ-loop
+urgency-of-requires c κs =
+    let l = c .before .before .before in
+    let b = l .before .before .before .before in
+    (b .pre .0, l .loop-test .taken, b .pre .1 (l .before .loop .i) (l .loop-test .taken))
+
+add-i : tie.Need-add-i Inv-loop μ-loop
+add-i c = search needs
+
+loop-less : tie.Need-loop-less Inv-loop μ-loop
+loop-less c = search needs
+
+loop-again : tie.Need-loop-again Inv-loop μ-loop
+loop-again c =
+    let s = c .before .before .before .loop .inv in
+    let l = c .before .before .loop-test .taken in
+    ⊎-elim
+    (λ w. rw (w .4, w .5, w .2 .ensures) (scan-take s l (w .0 .taken) (omega (arith, w .2 .ensures, w .3 .taken))))
+    (⊎-elim
+    (λ w. rw (w .4, w .5) (scan-keep s l (λ _. omega (arith, w .2 .ensures, w .3 .left))))
+    (λ w. rw (w .1, w .2) (scan-keep s l (λ h. absurd (omega (arith, w .0 .left))))))
+    (c .if1 .came)
+
+returns : tie.Need-returns Inv-loop μ-loop
+returns c =
+    let r = c .before .before .before .before .pre .0 in
+    scan-end (c .before .loop .inv) (omega arith) (λ j h. omega (arith, r .formed .rank-high j h, r .sound .few))
+
+pub foremost-spec : {M : Type 1} → statement M
+foremost-spec =
+    tie.close
+    (tie.spec
+    Inv-loop
+    μ-loop
+    loop-holds
+    mul-if1
+    element-copy-out-if1
+    mul-urgency-of
+    element-copy-out-urgency-of
+    urgency-of-requires
+    add-i
+    loop-less
+    loop-again
+    returns)

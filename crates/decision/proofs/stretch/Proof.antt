@@ -1,0 +1,76 @@
+-- `stretch` meets its contract: each way out ends with the job or at the next release.
+use mathlib.Core.Path.{refl}
+use native.Mathlib.Omega.{arith}
+use borrow.Author.Needs.{needs}
+use mathlib.Core.Logic.{inl, inr}
+use Rattle.counting.proofs.Cases.{not-both}
+use Rattle.decision.proofs.stretch.Statement.{statement}
+use Rattle.decision.proofs.stretch.Tie as tie
+
+returns : tie.Need-returns
+returns c =
+    record {
+      some = c .before .pre .0;
+      within = omega arith;
+      calm = λ e. not-both (c .before .args .held) e (c .if1 .taken);
+      ends = inl refl;
+    }
+
+returns-2 : tie.Need-returns-2
+returns-2 c =
+    record {
+      some = c .before .before .pre .0;
+      within = omega arith;
+      calm = λ e h. absurd (omega (arith, c .if2 .taken));
+      ends = inl refl;
+    }
+
+mul-until : tie.Need-mul-until
+mul-until c = search needs
+
+add-until : tie.Need-add-until
+add-until c = search needs
+
+mul-until-2 : tie.Need-mul-until-2
+mul-until-2 c = search needs
+
+shared-slice-read-until : tie.Need-shared-slice-read-until
+shared-slice-read-until c = search needs
+
+sub-until : tie.Need-sub-until
+sub-until c = omega (arith, c .before .before .before .pre .1 (c .before .if2 .left))
+
+returns-3 : tie.Need-returns-3
+returns-3 c =
+    let b = c .before .before .before .before in
+    record {
+      some = b .pre .0;
+      within = omega arith;
+      calm = λ e h. omega (arith, b .pre .1 h, c .if3 .taken);
+      ends = inl refl;
+    }
+
+returns-4 : tie.Need-returns-4
+returns-4 c =
+    let b = c .before .before .before .before in
+    let h = b .pre .1 (c .before .before .if2 .left) in
+    record {
+      some = omega (arith, h);
+      within = c .if3 .left;
+      calm = λ e g. omega (arith, h);
+      ends = inr (c .before .before .if2 .left, omega (arith, h));
+    }
+
+pub stretch-spec : {M : Type 1} → statement M
+stretch-spec =
+    tie.close
+    (tie.spec
+    returns
+    returns-2
+    mul-until
+    add-until
+    mul-until-2
+    shared-slice-read-until
+    sub-until
+    returns-3
+    returns-4)

@@ -1,0 +1,256 @@
+-- One turn of play's loop, over the arrays that it keeps: how play stands after it, and that at most two turns a job are made. Assumes nothing.
+use Prim.Native.Nat.{ℕ, _+_, _-_, _*_, _≤_, _<_}
+use mathlib.Core.Path.{_≡_, refl, ap, _∙_}
+use mathlib.Core.Logic.{_⊎_, inl, inr, ⊎-elim}
+use mathlib.Core.List.{List}
+use native.Mathlib.Omega.{arith}
+use lib.ListN.{length, getD, set, drop, replicate, length-set, length-replicate}
+use lib.Seq.{getD-set-same, getD-set-other, drop-set-lt}
+use lib.Dec.{leb}
+use mathlib.Core.Bool.{true}
+use Rattle.counting.specs.Sum.{given, count}
+use Rattle.counting.proofs.Sum.{sum-le, given-sub, count-all}
+use Rattle.counting.proofs.Cases.{by-eq}
+use Rattle.tables.specs.Table.{Table, Sound, most, most-rows}
+use Rattle.tables.specs.Plan.{Plan, WellFormed}
+use Rattle.tables.specs.Jobs.{Jobs, WellFormedJobs, most-jobs, last-release}
+use Rattle.kernel.specs.Rule.{locked}
+use Rattle.kernel.specs.Answers.{PlayGiven}
+use Rattle.decision.specs.Decision.{Following, Heads, Released, Foremost, Stretch, urgency}
+use Rattle.joblist.proofs.Walk.{zeros}
+use Rattle.play.proofs.Standing as S
+
+-- a row's place in an array, and a job's place in the output
+abbrev pub at : List ℕ → ℕ → ℕ
+at l i = getD l i 0
+
+-- play at tick t, with the arrays that it keeps and the output as it came, `out₀`, and as it is
+pub record Playing (tb : Table) (p : Plan) (js : Jobs) (out₀ : List ℕ) (t : ℕ) (heads done out : List ℕ) : Type 0 where
+  pub heads-places : length heads ≡ most-rows
+  pub done-places : length done ≡ most-rows
+  pub small : (i : ℕ) → i < tb .n → at done i ≤ most
+  pub standing : S.Standing tb p js t (at heads) (at done) (at out)
+  pub whole : length out ≡ length out₀
+  pub rest : drop (js .N) out ≡ drop (js .N) out₀
+
+-- what a turn gains: a job has finished, or the next release is reached
+pub record Gained (js : Jobs) (next t t′ : ℕ) (heads heads′ : List ℕ) : Type 0 where
+  pub later : t ≤ t′
+  pub gain :
+      (S.unplayed js (at heads′) < S.unplayed js (at heads))
+      ⊎ ((S.unplayed js (at heads′) ≡ S.unplayed js (at heads)) × (next < js .N) × (js .release next ≤ t′))
+
+-- the turns that may still come: one for each unfinished job and one for each release to come
+abbrev pub turns : Jobs → List ℕ → ℕ → ℕ
+turns js heads next = S.unplayed js (at heads) + (js .N - next)
+
+-- two a job at most
+pub turns-most : (js : Jobs) (heads : List ℕ) (next : ℕ) → turns js heads next ≤ 2 * js .N
+unfolding count
+turns-most js heads next =
+    omega (
+      arith,
+      sum-le (λ k. given (leb (at heads (js .row k)) k) 1) (λ k. given true 1) (js .N)
+          (λ k _. given-sub (leb (at heads (js .row k)) k) true 1 (λ _. refl)),
+      count-all (js .N),
+    )
+
+pub turns-fall : (js : Jobs) (next t t′ next′ : ℕ) (heads heads′ : List ℕ) → Gained js next t t′ heads heads′ → Released js next t′ next′ →
+    turns js heads′ next′ < turns js heads next
+turns-fall js next t t′ next′ heads heads′ g r =
+    ⊎-elim
+    (λ h. omega (arith, r .low))
+    (λ (h : (S.unplayed js (at heads′) ≡ S.unplayed js (at heads)) × (next < js .N) × (js .release next ≤ t′)).
+    by-eq next′ next
+    (λ e. absurd (omega (arith, r .waits (omega (arith, h .1)), ap (js .release) e, h .2)))
+    (λ e. omega (arith, r .low, h .0, h .1)))
+    (g .gain)
+
+-- row i's earliest unfinished job runs
+pub record Running (tb : Table) (js : Jobs) (t : ℕ) (heads done : List ℕ) (i : ℕ) : Type 0 where
+  pub row : i < tb .n
+  pub place : i < most-rows
+  pub job : at heads i < js .N
+  pub left : at done i < js .run (at heads i)
+  pub small : js .run (at heads i) ≤ most
+  pub in-time : t + (js .run (at heads i) - at done i) ≤ last-release + most-jobs * most
+
+-- what becomes of play by a decision for row i, n where no row waits: it is over, it goes on to the next release, the row's job has
+-- executed d ticks more, or it has finished and job k is the row's following one
+pub record Decided (tb : Table) (p : Plan) (js : Jobs) (out₀ : List ℕ) (t next : ℕ) (heads done out : List ℕ) (i : ℕ) : Type 0 where
+  pub over : tb .n ≤ i → js .N ≤ next → PlayGiven tb p js out₀ (js .N) out
+  pub idles : tb .n ≤ i → next < js .N →
+      Playing tb p js out₀ (js .release next) heads done out × Gained js next t (js .release next) heads heads
+  pub runs : i < tb .n → Running tb js t heads done i
+  pub goes-on : i < tb .n → (d : ℕ) → Stretch js next t (js .run (at heads i) - at done i) (locked tb p i (at done i)) d →
+      at done i + d < js .run (at heads i) →
+      Playing tb p js out₀ (t + d) heads (set done i (at done i + d)) out × Gained js next t (t + d) heads heads
+  pub finishes : i < tb .n → (d k : ℕ) → Stretch js next t (js .run (at heads i) - at done i) (locked tb p i (at done i)) d →
+      js .run (at heads i) ≤ at done i + d → js .N ≤ length out → Following js i (at heads i + 1) k →
+      Playing tb p js out₀ (t + d) (set heads i k) (set done i 0) (set out (at heads i) (t + d))
+      × Gained js next t (t + d) heads (set heads i k)
+
+module _ (tb : Table) (p : Plan) (js : Jobs) (sound : Sound tb) (wf : WellFormed tb p) (wfj : WellFormedJobs tb js) (out₀ : List ℕ) where
+  pub next-turn : (next t t′ next′ : ℕ) (heads heads′ : List ℕ) → S.Next js t next → Gained js next t t′ heads heads′ →
+      Released js next t′ next′ → S.Next js t′ next′
+  next-turn next t t′ next′ heads heads′ nx g r = S.next-on tb js wfj t t′ next next′ (g .later) (nx .came) r
+
+  pub starts : (heads : List ℕ) (next : ℕ) → Heads js (tb .n) heads → Released js 0 0 next →
+      Playing tb p js out₀ 0 heads (replicate most-rows 0) out₀ × S.Next js 0 next
+  starts heads next h r = (
+    record {
+      heads-places = h .places;
+      done-places = length-replicate {A = ℕ} most-rows 0;
+      small = λ i _. omega (arith, zeros most-rows i);
+      standing =
+          S.stands tb p js (at heads) (at (replicate most-rows 0)) (at out₀) wfj (h .first) (λ i _. zeros most-rows i);
+      whole = refl;
+      rest = refl;
+    },
+    S.next-on tb js wfj 0 0 0 next (omega arith) (λ k l. absurd (omega arith)) r,
+  )
+
+  module _ (t next : ℕ) (heads done out : List ℕ) (nx : S.Next js t next) (pl : Playing tb p js out₀ t heads done out)
+      (i : ℕ) (fm : Foremost tb p heads done next i) where
+    -- no row waits: play goes to the next release, or is over
+    module _ (no : tb .n ≤ i) where
+      none : (j : ℕ) → j < tb .n → at heads j < next → ⊥
+      none j h w = omega (arith, fm .first j h w .0)
+
+      turn-idle : next < js .N →
+          Playing tb p js out₀ (js .release next) heads done out × Gained js next t (js .release next) heads heads
+      turn-idle m = (
+        record {
+          heads-places = pl .heads-places;
+          done-places = pl .done-places;
+          small = pl .small;
+          standing = S.stands-idle tb p js sound wf wfj t next (at heads) (at done) (at out) nx (pl .standing) none m;
+          whole = pl .whole;
+          rest = pl .rest;
+        },
+        record { later = omega (arith, nx .later next (omega arith) m); gain = inr (refl, m, omega arith) },
+      )
+
+      turn-last : js .N ≤ next → PlayGiven tb p js out₀ (js .N) out
+      turn-last m =
+          record {
+            many = refl;
+            finishes =
+                S.all-played tb p js sound wf wfj t next (at heads) (at done) (at out) nx (pl .standing) none
+                (omega (arith, nx .high));
+            whole = pl .whole;
+            rest = pl .rest;
+          }
+
+    -- row i's head runs
+    module _ (il : i < tb .n) where
+      abbrev c : ℕ
+      c = at heads i
+
+      first : (j : ℕ) → j < tb .n → at heads j < next → urgency tb p i (at done i) ≤ urgency tb p j (at done j)
+      first j h w = fm .first j h w .1
+
+      head-within : c < js .N
+      head-within = omega (arith, fm .waits il, nx .high)
+
+      head-left : at done i < js .run c
+      head-left = S.left-head tb p js sound wf wfj t next (at heads) (at done) (at out) nx (pl .standing) i il (fm .waits il) first
+
+      head-in-time : t + (js .run c - at done i) ≤ last-release + most-jobs * most
+      head-in-time = S.in-time tb p js sound wf wfj t next (at heads) (at done) (at out) nx (pl .standing) i il (fm .waits il) first
+
+      head-small : js .run c ≤ most
+      head-small =
+          let r = wfj .lawful .row c head-within in
+          omega (arith, wfj .lawful .run-high c head-within, sound .C (js .row c) r .high)
+
+      module _ (d : ℕ) (stretch : Stretch js next t (js .run c - at done i) (locked tb p i (at done i)) d) where
+        abbrev e : ℕ
+        e = at done i
+
+        turn-on : e + d < js .run c →
+            Playing tb p js out₀ (t + d) heads (set done i (e + d)) out × Gained js next t (t + d) heads heads
+        turn-on h = (
+          record {
+            heads-places = pl .heads-places;
+            done-places = simp length-set (pl .done-places);
+            small = λ j l. by-eq j i (λ q. rw (q, same) (omega (arith, head-small))) (λ q. rw (other j q) (pl .small j l));
+            standing =
+                S.stands-on tb p js sound wf wfj t next (at heads) (at done) (at out) nx (pl .standing) i il (fm .waits il) first d stretch
+                (at (set done i (e + d))) h same other;
+            whole = pl .whole;
+            rest = pl .rest;
+          },
+          record {
+            later = omega arith;
+            gain =
+                ⊎-elim
+                (λ q. absurd (omega arith))
+                (λ q. inr (refl, q .0, omega (arith, q .1)))
+                (stretch .ends);
+          },
+        )
+          where
+            same : at (set done i (e + d)) i ≡ e + d
+            same = getD-set-same done i (e + d) 0 (omega (arith, pl .done-places, sound .few))
+
+            other : (j : ℕ) → (j ≡ i → ⊥) → at (set done i (e + d)) j ≡ at done j
+            other j q = getD-set-other done i j (e + d) 0 q
+
+        turn-after : (k : ℕ) → js .run c ≤ e + d → js .N ≤ length out → Following js i (c + 1) k →
+            Playing tb p js out₀ (t + d) (set heads i k) (set done i 0) (set out c (t + d))
+            × Gained js next t (t + d) heads (set heads i k)
+        turn-after k h room fol = (
+          record {
+            heads-places = simp length-set (pl .heads-places);
+            done-places = simp length-set (pl .done-places);
+            small = λ j l. by-eq j i (λ q. rw (q, done-same) (omega arith)) (λ q. rw (done-other j q) (pl .small j l));
+            standing =
+                S.stands-after tb p js sound wf wfj t next (at heads) (at done) (at out) nx (pl .standing) i il (fm .waits il) first d stretch
+                (at (set heads i k)) (at (set done i 0)) (at (set out c (t + d)))
+                (omega (arith, stretch .within, head-left)) follows heads-other done-same done-other
+                (getD-set-same out c (t + d) 0 (omega (arith, head-within)))
+                (λ j q. getD-set-other out c j (t + d) 0 q);
+            whole = simp length-set (pl .whole);
+            rest = drop-set-lt (js .N) out c (t + d) head-within ∙ pl .rest;
+          },
+          record {
+            later = omega arith;
+            gain =
+                inl (S.fewer tb p js sound wf wfj t next (at heads) (at done) (at out) nx (pl .standing) i il (fm .waits il) first d stretch
+                (at (set heads i k)) follows heads-other);
+          },
+        )
+          where
+            heads-same : at (set heads i k) i ≡ k
+            heads-same = getD-set-same heads i k 0 (omega (arith, pl .heads-places, sound .few))
+
+            follows : Following js i (c + 1) (at (set heads i k) i)
+            follows = rw heads-same fol
+
+            heads-other : (j : ℕ) → (j ≡ i → ⊥) → at (set heads i k) j ≡ at heads j
+            heads-other j q = getD-set-other heads i j k 0 q
+
+            done-same : at (set done i 0) i ≡ 0
+            done-same = getD-set-same done i 0 0 (omega (arith, pl .done-places, sound .few))
+
+            done-other : (j : ℕ) → (j ≡ i → ⊥) → at (set done i 0) j ≡ at done j
+            done-other j q = getD-set-other done i j 0 0 q
+
+    pub decided : Decided tb p js out₀ t next heads done out i
+    decided =
+        record {
+          over = turn-last;
+          idles = turn-idle;
+          runs =
+              λ il. record {
+                row = il;
+                place = omega (arith, sound .few);
+                job = head-within il;
+                left = head-left il;
+                small = head-small il;
+                in-time = head-in-time il;
+              };
+          goes-on = turn-on;
+          finishes = λ il d k st. turn-after il d st k;
+        }

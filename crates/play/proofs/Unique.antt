@@ -1,0 +1,38 @@
+-- Any two answers that play's promise allows are equal. Assumes nothing.
+use Prim.Native.Nat.{ℕ, _<_}
+use mathlib.Core.Path.{_≡_, sym, _∙_}
+use mathlib.Core.List.{List, [], _∷_}
+use lib.ListN.{length, getD}
+use lib.Seq.{ext-getD}
+use Rattle.counting.proofs.Cases.{by-le}
+use Rattle.tables.specs.Table.{Table, tableOf}
+use Rattle.tables.specs.Plan.{Plan, planOf}
+use Rattle.tables.specs.Jobs.{Jobs, jobsOf}
+use Rattle.tables.specs.Refusal.{Result}
+use Rattle.tables.specs.Checks.{shape, range, plan-form, jobs-shape, job-rules, room}
+use Rattle.tables.proofs.Answered.{OneGiven, answered-unique, same-rest, shape-place, range-place, plan-form-place, jobs-shape-place, job-rules-place, room-place}
+use Rattle.kernel.specs.Answers.{PlayGiven, PlayAnswer}
+use Rattle.kernel.proofs.Finishing.{finish-unique}
+
+-- one finish tick a job, and the remainder unchanged
+finishes-unique : (tb : Table) (p : Plan) (js : Jobs) (out : List ℕ) → OneGiven (PlayGiven tb p js out)
+finishes-unique tb p js out v w l m a b = (a .many ∙ sym (b .many), ext-getD 0 l m (a .whole ∙ sym (b .whole)) same)
+  where
+    same : (k : ℕ) → k < length l → getD l k 0 ≡ getD m k 0
+    same k _ =
+        by-le (js .N) k (same-rest (js .N) l m (a .rest ∙ sym (b .rest)) k)
+        (λ h. finish-unique tb p js k (getD l k 0) (getD m k 0) (a .finishes k h) (b .finishes k h))
+
+pub play-unique : (xs ps js out : List ℕ) (r s : Result) → PlayAnswer xs ps js out r → PlayAnswer xs ps js out s → r ≡ s
+play-unique xs ps js out r s a b =
+    let tb = tableOf xs in
+    answered-unique
+    (shape xs ∷ range xs ∷ plan-form tb ps ∷ jobs-shape js ∷ job-rules tb js ∷ room (jobsOf js .N) out ∷ [])
+    (PlayGiven tb (planOf ps) (jobsOf js) out)
+    out
+    r
+    s
+    (shape-place xs, (range-place xs, (plan-form-place tb ps, (jobs-shape-place js, (job-rules-place tb js, (room-place (jobsOf js .N) out, tt))))))
+    (λ _. finishes-unique tb (planOf ps) (jobsOf js) out)
+    a
+    b

@@ -1,0 +1,82 @@
+-- `play` meets its contract: the checks of the table, then what `play_sound` answers.
+use Prim.Native.Nat.{ℕ, _*_}
+use mathlib.Core.Path.{_≡_, subst}
+use lib.ListN.{length}
+use borrow.Author.Needs.{needs}
+use mathlib.Core.List.{List}
+use Rattle.tables.specs.Table.{row-width}
+use Rattle.tables.specs.Refusal.{Clear}
+use Rattle.tables.specs.Checks.{shape, range}
+use Rattle.tables.specs.Checked.{TableChecked}
+use Rattle.tables.specs.Answer.{resultOf}
+use Rattle.tables.proofs.Clear.{sound-of-clear}
+use Rattle.play.proofs.Answers.{play-shape, play-range, play-rest}
+use Rattle.play.proofs.play.Statement.{statement}
+use Rattle.play.proofs.play.Tie as tie
+
+check-table-requires : tie.Need-check-table-requires
+check-table-requires c κs = search needs
+
+enum-told : tie.Need-enum-told
+enum-told c = search needs
+
+enum-known-checked : tie.Need-enum-known-checked
+enum-known-checked c = search needs
+
+enum-known-checked-2 : tie.Need-enum-known-checked-2
+enum-known-checked-2 c = search needs
+
+-- The table is sound.
+module _ (c : tie.After-known-told2) where
+  abbrev s : tie.Start
+  s = c .before .before .before .before .before .before .before .before
+
+  abbrev xs : List ℕ
+  xs = s .args .table .now
+
+  clear : Clear (shape xs) × Clear (range xs) × (length xs ≡ row-width * c .before .checked2 .given .0 .0)
+  clear = subst (TableChecked xs) (c .before .checked2 .given .1) (c .before .before .before .check-table .ensures)
+
+play-sound-requires : tie.Need-play-sound-requires
+play-sound-requires c κs =
+    let k = clear (c .before) in
+    (sound-of-clear (xs (c .before)) (k .0) (k .1), k .2)
+
+returns : tie.Need-returns
+returns c =
+    let e = c .before .before in
+    let a = e .before .before .before .before .before .args in
+    play-shape (a .table .now) (a .plan .now) (a .jobs .now) (a .out .now)
+    (subst (TableChecked (a .table .now)) (c .enum-told .given .1) (e .check-table .ensures))
+
+returns-2 : tie.Need-returns-2
+returns-2 c =
+    let e = c .before .before .before in
+    let a = e .before .before .before .before .before .args in
+    let h = subst (TableChecked (a .table .now)) (c .before .checked .given .1) (e .check-table .ensures) in
+    play-range (a .table .now) (a .plan .now) (a .jobs .now) (a .out .now) (c .before .checked .given .0 .0) (h .0) (h .1)
+
+same-length : tie.Need-same-length
+same-length c = search needs
+
+returns-3 : tie.Need-returns-3
+returns-3 c =
+    let d = c .before .before in
+    let k = d .before .before in
+    let a = s k .args in
+    play-rest (a .table .now) (a .plan .now) (a .jobs .now) (a .out .now) (resultOf (d .play-sound .result) (d .play-sound .last .1 .1 .1 .1 .0))
+    (clear k .0) (clear k .1) (d .play-sound .ensures)
+
+pub play-spec : {M : Type 1} → statement M
+play-spec =
+    tie.close
+    (tie.spec
+    check-table-requires
+    enum-told
+    enum-known-checked
+    enum-known-checked-2
+    play-sound-requires
+    returns
+    returns-2
+    same-length
+    returns-3)

@@ -1,0 +1,152 @@
+-- `play_sound` meets its contract: the checks in their order, then what `finish_all` gives.
+use Prim.Native.Nat.{ℕ}
+use mathlib.Core.Path.{_≡_, subst}
+use native.Mathlib.Omega.{arith}
+use borrow.Author.Needs.{needs}
+use mathlib.Core.List.{List}
+use Rattle.tables.specs.Table.{Table, tableOf}
+use Rattle.tables.specs.Jobs.{jobsOf}
+use Rattle.tables.specs.Rows.{tableIn}
+use Rattle.tables.specs.Refusal.{Clear}
+use Rattle.tables.specs.Checks.{plan-form, jobs-shape, job-rules}
+use Rattle.tables.specs.Checked.{PlanChecked}
+use Rattle.tables.proofs.Clear.{plan-of-clear, jobs-of-clear}
+use Rattle.joblist.specs.Listed.{ListSaid}
+use Rattle.play.proofs.Answers.{rest-plan, rest-jobs, rest-job, rest-room, rest-given}
+use Rattle.play.proofs.play_sound.Statement.{statement}
+use Rattle.play.proofs.play_sound.Tie as tie
+
+rows-of-requires : tie.Need-rows-of-requires
+rows-of-requires c κs = search needs
+
+check-plan-requires : tie.Need-check-plan-requires
+check-plan-requires c κs = search needs
+
+enum-known-form : tie.Need-enum-known-form
+enum-known-form c = search needs
+
+-- The table is sound.
+module _ (s : tie.Start) where
+  abbrev tb : Table
+  tb = tableOf (s .args .table .now)
+
+  abbrev ps : List ℕ
+  ps = s .args .plan .now
+
+  abbrev js : List ℕ
+  js = s .args .jobs .now
+
+  abbrev os : List ℕ
+  os = s .args .out .now
+
+-- The plan is well formed.
+module _ (c : tie.After-enum-told) where
+  abbrev s : tie.Start
+  s = c .before .before .before .before .before .before .before .before
+
+  form : Clear (plan-form (tb s) (ps s))
+  form =
+      let d = c .before .before in
+      subst (λ t. Clear (plan-form t (ps s))) (d .before .rows-of .ensures)
+      (subst (PlanChecked (tableIn (d .before .rows-of .result) (s .args .n)) (ps s)) (c .enum-told .given .1) (d .check-plan .ensures))
+
+-- The job list is well formed.
+module _ (c : tie.After-known-told3) where
+  abbrev f : tie.After-enum-told
+  f = c .before .before .before .before
+
+  abbrev many : ℕ
+  many = c .before .listed2 .given .0 .0
+
+  listed : (many ≡ jobsOf (js (s f)) .N) × Clear (jobs-shape (js (s f))) × Clear (job-rules (tb (s f)) (js (s f)))
+  listed = subst (ListSaid (tb (s f)) (js (s f))) (c .before .listed2 .given .1) (c .before .before .before .check-jobs .ensures)
+
+returns : tie.Need-returns
+returns c =
+    let d = c .before .before .before in
+    let s = d .before .before .before .before .before .before in
+    rest-plan (tb s) (ps s) (js s) (os s) (c .before .form .given .0 .0)
+    (subst (λ t. plan-form t (ps s) .hits (c .before .form .given .0 .0)) (d .before .rows-of .ensures)
+    (subst (PlanChecked (tableIn (d .before .rows-of .result) (s .args .n)) (ps s)) (c .before .form .given .1) (d .check-plan .ensures)))
+
+enum-told : tie.Need-enum-told
+enum-told c = search needs
+
+check-jobs-requires : tie.Need-check-jobs-requires
+check-jobs-requires c κs = omega (arith, s c .pre .0 .few, s c .pre .1)
+
+enum-told-2 : tie.Need-enum-told-2
+enum-told-2 c = search needs
+
+enum-known-listed : tie.Need-enum-known-listed
+enum-known-listed c = search needs
+
+enum-known-listed-2 : tie.Need-enum-known-listed-2
+enum-known-listed-2 c = search needs
+
+cast-if1 : tie.Need-cast-if1
+cast-if1 c = search needs
+
+returns-2 : tie.Need-returns-2
+returns-2 c =
+    let k = c .before in
+    let b = s (f k) in
+    let l = listed k in
+    rest-room (tb b) (ps b) (js b) (os b) (form (f k)) (l .1) (l .2) (omega (arith, l .0, c .if1 .taken))
+
+finish-all-requires : tie.Need-finish-all-requires
+finish-all-requires c κs =
+    let k = c .before .before in
+    let b = s (f k) in
+    let l = listed k in
+    let p = plan-of-clear (tb b) (ps b) (form (f k)) in (
+      record { sound = b .pre .0; whole = omega (arith, b .pre .1); plan-whole = p .0; formed = p .1 },
+      jobs-of-clear (tb b) (js b) (l .1) (l .2),
+      omega (arith, l .0, c .before .if1 .left),
+    )
+
+returns-3 : tie.Need-returns-3
+returns-3 c =
+    let d = c .before .before in
+    let b = s (d .before) in
+    rest-jobs (tb b) (ps b) (js b) (os b) (form (d .before)) (subst (ListSaid (tb b) (js b)) (c .enum-told2 .given .1) (d .check-jobs .ensures))
+
+returns-4 : tie.Need-returns-4
+returns-4 c =
+    let d = c .before .before .before in
+    let b = s (d .before) in
+    let h = subst (ListSaid (tb b) (js b)) (c .before .listed .given .1) (d .check-jobs .ensures) in
+    rest-job (tb b) (ps b) (js b) (os b) (form (d .before)) (h .0) (c .before .listed .given .0 .0) (h .1)
+
+same-length : tie.Need-same-length
+same-length c = search needs
+
+returns-5 : tie.Need-returns-5
+returns-5 c =
+    let d = c .before .before in
+    let k = d .before .before .before in
+    let b = s (f k) in
+    let l = listed k in
+    rest-given (tb b) (ps b) (js b) (os b) (form (f k)) (l .1) (l .2) (many k) (d .finish-all .last .1 .1 .1 .0)
+    (omega (arith, l .0, d .before .before .if1 .left)) (l .0) (d .finish-all .ensures)
+
+pub play-sound-spec : {M : Type 1} → statement M
+play-sound-spec =
+    tie.close
+    (tie.spec
+    rows-of-requires
+    check-plan-requires
+    enum-known-form
+    returns
+    enum-told
+    check-jobs-requires
+    enum-told-2
+    enum-known-listed
+    enum-known-listed-2
+    cast-if1
+    returns-2
+    finish-all-requires
+    returns-3
+    returns-4
+    same-length
+    returns-5)

@@ -1,0 +1,91 @@
+// The operation play: the kernel's rule, answered from decision to decision.
+ghost use mathlib.Core.Path.{_≡_};
+ghost use Prim.Native.Nat.{_*_, _≤_};
+ghost use lib.ListN.{length};
+ghost use Rattle.tables.specs.Table.{Sound, tableOf, row-width};
+ghost use Rattle.tables.specs.Plan.{planOf};
+ghost use Rattle.tables.specs.Jobs.{jobsOf, WellFormedJobs};
+ghost use Rattle.tables.specs.Answer.{resultOf};
+ghost use Rattle.kernel.specs.Answers.{PlayGiven, PlayAnswer};
+ghost use Rattle.decision.specs.Decision.{Ruled};
+ghost use Rattle.play.specs.Rest.{PlayRest};
+use joblist::Listed;
+use tables::Answer;
+use tables::JOB_WIDTH;
+use tables::PlanCheck;
+use tables::ROW_WIDTH;
+use tables::TableCheck;
+
+// The finish tick of each job, at its place of the output. Of each row its earliest unfinished job is kept, in `heads`, and the ticks that
+// this job has executed, in `done`; the jobs before job `next` are released at tick t. Each turn of the loop is one decision, or goes on to
+// the next release.
+fn finish_all(table: &[u32], plan: &[u32], jobs: &[u32], out: &mut [u32])
+    requires { ⌜ Ruled (now table) (now plan) × WellFormedJobs (tableOf (now table)) (jobsOf (now jobs)) × (jobsOf (now jobs) .N ≤ length (now out)) ⌝ }
+    ensures { λ _. ⌜ PlayGiven (tableOf (now (table .entry))) (planOf (now (plan .entry))) (jobsOf (now (jobs .entry))) (now (out .entry)) (jobsOf (now (jobs .entry)) .N) (now (out .exit)) ⌝ }
+{
+    let n = table.len() / ROW_WIDTH;
+    let many = jobs.len() / JOB_WIDTH;
+    let mut heads = decision::first_jobs(jobs, n);
+    let mut done: [u32; 32] = [0; 32];
+    let mut t: u32 = 0;
+    let mut next = decision::released(jobs, 0, 0);
+    loop {
+        let i = decision::foremost(table, plan, &heads, &done, next);
+        if n <= i {
+            if many <= next {
+                return;
+            }
+            t = jobs[JOB_WIDTH * next + 1];
+        } else {
+            let k = heads[i];
+            let e = done[i];
+            let run = jobs[JOB_WIDTH * k + 2];
+            let held = decision::held(table, plan, i, e);
+            let d = decision::stretch(jobs, next, t, run - e, held);
+            t += d;
+            if e + d < run {
+                done[i] = e + d;
+            } else {
+                out[k] = t;
+                heads[i] = decision::following(jobs, i as u32, k + 1);
+                done[i] = 0;
+            }
+        }
+        next = decision::released(jobs, next, t);
+    }
+}
+
+// The checks of the plan, the job list and the output, in their order, then the finish ticks.
+fn play_sound(table: &[u32], n: usize, plan: &[u32], jobs: &[u32], out: &mut [u32]) -> Answer
+    requires { ⌜ Sound (tableOf (now table)) × (length (now table) ≡ row-width * n) ⌝ }
+    ensures { λ r. ⌜ PlayRest (tableOf (now (table .entry))) (now (plan .entry)) (now (jobs .entry)) (now (out .entry)) (resultOf r (now (out .exit))) ⌝ }
+{
+    let form = tables::check_plan(tables::rows_of(table, n), n, plan);
+    if let PlanCheck::AtFault(at) = form {
+        return Answer::Plan(at);
+    }
+    let listed = joblist::check_jobs(table, jobs);
+    match listed {
+        Listed::Shape => Answer::JobsShape,
+        Listed::AtFault(k) => Answer::Job(k),
+        Listed::WellFormed(many) => {
+            if out.len() < many as usize {
+                return Answer::Room;
+            }
+            finish_all(table, plan, jobs, out);
+            Answer::Given(many)
+        }
+    }
+}
+
+// A task table, a plan and a job list to finish ticks, one number a job.
+pub fn play(table: &[u32], plan: &[u32], jobs: &[u32], out: &mut [u32]) -> Answer
+    ensures { λ r. ⌜ PlayAnswer (now (table .entry)) (now (plan .entry)) (now (jobs .entry)) (now (out .entry)) (resultOf r (now (out .exit))) ⌝ }
+{
+    let checked = tables::check_table(table);
+    match checked {
+        TableCheck::Shape => Answer::Shape,
+        TableCheck::Range(at) => Answer::Range(at),
+        TableCheck::Sound(n) => play_sound(table, n, plan, jobs, out),
+    }
+}
