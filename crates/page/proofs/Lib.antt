@@ -1,0 +1,3 @@
+-- The laws of the crate `page`.
+pub mod Printed
+pub mod Answers

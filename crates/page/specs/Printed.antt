@@ -1,0 +1,39 @@
+-- The printed plan and the line of a refusal: document 01, "Sheet and printed plan".
+use Prim.Native.Nat.{ℕ, zero, suc, _+_, _*_, _/_}
+use mathlib.Core.List.{List, [], _++_}
+use lib.ListN.{length, getD}
+use Rattle.text.specs.Word.{word}
+use Rattle.text.specs.Decimal.{decimal}
+use Rattle.tables.specs.Planned.{planned-width}
+
+-- "The first line gives the number of rows."
+unfoldable pub planLine : ℕ → List ℕ
+planLine n = word "plan " ++ decimal n ++ word "\n"
+
+-- "In each row line stand the row's number from 0, then rank, length and response in ticks."
+unfoldable pub rowLine : ℕ → ℕ → ℕ → ℕ → List ℕ
+rowLine i rank len response =
+    (word "row " ++ decimal i)
+    ++ (word " rank " ++ decimal rank)
+    ++ (word " length " ++ decimal len)
+    ++ (word " response " ++ decimal response)
+    ++ word "\n"
+
+-- the lines of the rows below n of a planned table
+unfoldable pub rowLines : List ℕ → ℕ → List ℕ
+rowLines planned zero = []
+rowLines planned (suc i) =
+    rowLines planned i
+    ++ rowLine
+    i
+    (getD planned (planned-width * i) 0)
+    (getD planned (planned-width * i + 1) 0)
+    (getD planned (planned-width * i + 2) 0)
+
+-- the text of a planned table
+unfoldable pub planText : List ℕ → List ℕ
+planText planned = planLine (length planned / planned-width) ++ rowLines planned (length planned / planned-width)
+
+-- "For a refusal it prints one line, the word `refused`, the number and the place, single spaces between them."
+unfoldable pub refusedLine : ℕ → ℕ → List ℕ
+refusedLine number place = (word "refused " ++ decimal number) ++ (word " " ++ decimal place) ++ word "\n"
