@@ -1,0 +1,4 @@
+-- The laws of the crate `reading`.
+pub mod Pieces
+pub mod Words
+pub mod Numbers

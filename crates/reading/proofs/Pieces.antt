@@ -1,0 +1,148 @@
+-- Laws of pieces of text: a piece behind another, and one piece for another with the same texts. Assumes nothing.
+use Prim.Native.Nat.{ℕ, suc, _+_}
+use mathlib.Core.Path.{_≡_, refl, sym, ap, _∙_}
+use mathlib.Core.List.{List, [], _∷_, _++_, append-assoc}
+use native.Mathlib.Omega.{arith}
+use native.Mathlib.Nat.{add-suc}
+use lib.ListN.{length, take, drop, length-append}
+use lib.Seq.{take-append-add}
+use Rattle.reading.specs.Piece.{Piece, wordPiece, both, Stops, Passed, Stuck}
+
+-- what stands behind the same beginning is the same
+pub cancel : (p : List ℕ) {x y : List ℕ} → p ++ x ≡ p ++ y → x ≡ y
+cancel [] e = e
+cancel (a ∷ p) {x} {y} e = cancel p (tail e)
+  where
+    tail : a ∷ (p ++ x) ≡ a ∷ (p ++ y) → p ++ x ≡ p ++ y
+    tail h = cc
+
+-- a text of the piece, whatever follows it, tells its value
+abbrev pub Code : Piece → Type 0
+Code P = (a b : P .Value) → P .Allowed a → P .Allowed b → (x y : List ℕ) → P .text a ++ x ≡ P .text b ++ y → a ≡ b
+
+pub code-word : (w : List ℕ) → Code (wordPiece w)
+code-word w a b ha hb x y e = refl
+
+-- and what follows it
+pub code-rest : (P : Piece) → Code P → (a b : P .Value) → P .Allowed a → P .Allowed b → (x y : List ℕ) → P .text a ++ x ≡ P .text b ++ y → x ≡ y
+code-rest P code a b ha hb x y e =
+    let q = ap (P .text) (code a b ha hb x y e) in cancel (P .text b) (ap (λ (t : List ℕ). t ++ x) (sym q) ∙ e)
+
+module _ (P Q : Piece) where
+  behind : (a : P .Value) (b : Q .Value) (y : List ℕ) → both P Q .text (a, b) ++ y ≡ P .text a ++ (Q .text b ++ y)
+  behind a b y = append-assoc (P .text a) (Q .text b) y
+
+  pub code-both : Code P → Code Q → Code (both P Q)
+  code-both p q a b ha hb x y e =
+      let f = sym (behind (a .0) (a .1) x) ∙ e ∙ behind (b .0) (b .1) y in
+      let u = p (a .0) (b .0) (ha .0) (hb .0) (Q .text (a .1) ++ x) (Q .text (b .1) ++ y) f in
+      let r = code-rest P p (a .0) (b .0) (ha .0) (hb .0) (Q .text (a .1) ++ x) (Q .text (b .1) ++ y) f in
+      let v = q (a .1) (b .1) (ha .1) (hb .1) x y r in λ i. (u i, v i)
+
+  -- stuck in the first, where some text of the second could follow
+  both-first : {s : List ℕ} {p : ℕ} → Stops P s p → (b : Q .Value) → Q .Allowed b → Stops (both P Q) s p
+  both-first {s} {p} h b hb =
+      record {
+        within = h .within;
+        begun = (
+          (h .begun .0, b),
+          (h .begun .1, hb),
+          (
+            h .begun .2 .0 ++ Q .text b,
+            sym (append-assoc (take p s) (h .begun .2 .0) (Q .text b)) ∙ ap (λ (t : List ℕ). t ++ Q .text b) (h .begun .2 .1),
+          ),
+        );
+        no-more = λ l v hv y g. h .no-more l (v .0) (hv .0) (Q .text (v .1) ++ y) (g .0, g .1 ∙ behind (v .0) (v .1) y);
+        no-text = λ v hv y e. h .no-text (v .0) (hv .0) (Q .text (v .1) ++ y) (e ∙ behind (v .0) (v .1) y);
+      }
+
+  -- past the first and stuck in the second
+  both-second : {s t : List ℕ} {p : ℕ} → Code P → (a : P .Value) → P .Allowed a → s ≡ P .text a ++ t → Stops Q t p
+      → Stops (both P Q) s (length (P .text a) + p)
+  both-second {s} {t} {p} code a ha e h =
+      let n = length (P .text a) in
+      let long = ap length e ∙ length-append (P .text a) t in
+      let front : (m : ℕ) → take (n + m) s ≡ P .text a ++ take m t = λ m. ap (take (n + m)) e ∙ take-append-add (P .text a) t m in
+      record {
+        within = let w = h .within in omega arith;
+        begun = (
+          (a, h .begun .0),
+          (ha, h .begun .1),
+          (
+            h .begun .2 .0,
+            ap (λ (l : List ℕ). l ++ h .begun .2 .0) (front p)
+                ∙ append-assoc (P .text a) (take p t) (h .begun .2 .0)
+                ∙ ap (λ (l : List ℕ). P .text a ++ l) (h .begun .2 .1),
+          ),
+        );
+        no-more = λ l v hv y g.
+            h .no-more (omega arith) (v .1) (hv .1) y (
+              g .0,
+              code-rest P code a (v .0) ha (hv .0) (take (suc p) t ++ g .0) (Q .text (v .1) ++ y)
+                  (sym (append-assoc (P .text a) (take (suc p) t) (g .0))
+                  ∙ ap (λ (l : List ℕ). l ++ g .0) (sym (front (suc p)) ∙ ap (λ (m : ℕ). take m s) (add-suc n p))
+                  ∙ g .1
+                  ∙ behind (v .0) (v .1) y),
+            );
+        no-text = λ v hv y g.
+            h .no-text (v .1) (hv .1) y
+            (code-rest P code a (v .0) ha (hv .0) t (Q .text (v .1) ++ y) (sym e ∙ g ∙ behind (v .0) (v .1) y));
+      }
+
+  pub stuck-first : {s : List ℕ} {at place : ℕ} → Stuck P s at place → (b : Q .Value) → Q .Allowed b → Stuck (both P Q) s at place
+  stuck-first h b hb = record { ahead = h .ahead; reached = h .reached; stops = both-first (h .stops) b hb }
+
+  pub stuck-second : {s : List ℕ} {at m place : ℕ} {a : P .Value} → Code P → Passed P s at a m → Stuck Q s m place → Stuck (both P Q) s at place
+  stuck-second {s} {at} {m} {place} {a} code f h =
+      record {
+        ahead = length (P .text a) + h .ahead;
+        reached = let r = h .reached in let q = f .behind in omega arith;
+        stops = both-second code a (f .allowed) (f .split) (h .stops);
+      }
+
+  pub passed-both : {s : List ℕ} {at m n : ℕ} {a : P .Value} {b : Q .Value} → Passed P s at a m → Passed Q s m b n → Passed (both P Q) s at (a, b) n
+  passed-both {s} {at} {m} {n} {a} {b} f g =
+      record {
+        allowed = (f .allowed, g .allowed);
+        within = g .within;
+        behind = let p = f .behind in let q = g .behind in omega (arith, length-append (P .text a) (Q .text b));
+        split = f .split ∙ ap (λ (l : List ℕ). P .text a ++ l) (g .split) ∙ sym (behind a b (drop n s));
+      }
+
+-- two pieces with the same texts
+pub record Alike (P Q : Piece) : Type 0 where
+  pub to : P .Value → Q .Value
+  pub back : Q .Value → P .Value
+  pub allowed-to : (v : P .Value) → P .Allowed v → Q .Allowed (to v)
+  pub allowed-back : (w : Q .Value) → Q .Allowed w → P .Allowed (back w)
+  pub text-to : (v : P .Value) → P .text v ≡ Q .text (to v)
+  pub text-back : (w : Q .Value) → P .text (back w) ≡ Q .text w
+
+module _ {P Q : Piece} (e : Alike P Q) where
+  alike-stops : {s : List ℕ} {p : ℕ} → Stops P s p → Stops Q s p
+  alike-stops {s} {p} h =
+      record {
+        within = h .within;
+        begun = (e .to (h .begun .0), e .allowed-to (h .begun .0) (h .begun .1), (h .begun .2 .0, h .begun .2 .1 ∙ e .text-to (h .begun .0)));
+        no-more = λ l w hw y g.
+            h .no-more l (e .back w) (e .allowed-back w hw) y (g .0, g .1 ∙ ap (λ (t : List ℕ). t ++ y) (sym (e .text-back w)));
+        no-text = λ w hw y g. h .no-text (e .back w) (e .allowed-back w hw) y (g ∙ ap (λ (t : List ℕ). t ++ y) (sym (e .text-back w)));
+      }
+
+  pub alike-stuck : {s : List ℕ} {at place : ℕ} → Stuck P s at place → Stuck Q s at place
+  alike-stuck h = record { ahead = h .ahead; reached = h .reached; stops = alike-stops (h .stops) }
+
+  pub alike-passed : {s : List ℕ} {at n : ℕ} {v : P .Value} → Passed P s at v n → Passed Q s at (e .to v) n
+  alike-passed {s} {at} {n} {v} f =
+      record {
+        allowed = e .allowed-to v (f .allowed);
+        within = f .within;
+        behind = f .behind ∙ ap (λ (t : List ℕ). at + length t) (e .text-to v);
+        split = f .split ∙ ap (λ (t : List ℕ). t ++ drop n s) (e .text-to v);
+      }
+
+  pub alike-code : ((v w : Q .Value) → e .back v ≡ e .back w → v ≡ w) → Code P → Code Q
+  alike-code one code a b ha hb x y h =
+      one a b
+      (code (e .back a) (e .back b) (e .allowed-back a ha) (e .allowed-back b hb) x y
+      (ap (λ (t : List ℕ). t ++ x) (e .text-back a) ∙ h ∙ ap (λ (t : List ℕ). t ++ y) (sym (e .text-back b))))

@@ -1,0 +1,96 @@
+// Readers of a text from a cursor on: one word, and one number with the byte that ends it.
+ghost use mathlib.Core.Path.{_≡_};
+ghost use Prim.Native.Nat.{_≤_, _<_};
+ghost use lib.ListN.{length};
+ghost use Rattle.text.specs.Decimal.{nought};
+ghost use Rattle.reading.specs.Read.{ReadsWord, ReadsNumber, Grows};
+
+// A place in a text.
+pub struct Cursor {
+    pub at: usize,
+}
+
+// A word was there, and the cursor behind it; or the place at which the text differs from it or ends.
+pub enum WordRead {
+    Past(Cursor),
+    Stuck(usize),
+}
+
+// A number was there, and the cursor behind the byte that ends it; or the place up to which some such number could stand there.
+pub enum NumberRead {
+    Past(u64, Cursor),
+    Stuck(usize),
+}
+
+pub fn read_word(text: &[u8], from: Cursor, word: &[u8]) -> WordRead
+    requires { ⌜ from .at ≤ length (now text) ⌝ }
+    ensures { λ r. ⌜ ReadsWord (now (word .entry)) (now (text .entry)) (from .at) r ⌝ }
+{
+    let start = from.at;
+    let mut i: usize = 0;
+    while i < word.len() {
+        if text.len() - start <= i {
+            return WordRead::Stuck(start + i);
+        }
+        if text[start + i] != word[i] {
+            return WordRead::Stuck(start + i);
+        }
+        i += 1;
+    }
+    WordRead::Past(Cursor { at: start + i })
+}
+
+// A number with one digit more; or none, where the byte is no digit or the number would be 0 or above the largest.
+enum Grown {
+    More(u64),
+    None,
+}
+
+// The number v with the digit `byte` behind it.
+fn grow(v: u64, byte: u8, most: u64) -> Grown
+    requires { ⌜ (v ≤ most) × (most ≤ 1000000000) ⌝ }
+    ensures { λ r. ⌜ Grows most v byte r ⌝ }
+{
+    if byte < 48 {
+        return Grown::None;
+    }
+    if 57 < byte {
+        return Grown::None;
+    }
+    let more = 10 * v + (byte - 48) as u64;
+    if more < 1 {
+        return Grown::None;
+    }
+    if most < more {
+        return Grown::None;
+    }
+    Grown::More(more)
+}
+
+pub fn read_number(text: &[u8], from: Cursor, most: u64, end: u8) -> NumberRead
+    requires { ⌜ (from .at ≤ length (now text)) × (1 ≤ most) × (most ≤ 1000000000) × (end < nought) ⌝ }
+    ensures { λ r. ⌜ ReadsNumber most end (now (text .entry)) (from .at) r ⌝ }
+{
+    let mut at = from.at;
+    let mut v: u64 = 0;
+    while at < text.len() {
+        let byte = text[at];
+        let next = at + 1;
+        let grown = grow(v, byte, most);
+        match grown {
+            Grown::More(more) => {
+                v = more;
+                at = next;
+            }
+            Grown::None => {
+                if byte == end {
+                    if 0 < v {
+                        return NumberRead::Past(v, Cursor { at: next });
+                    }
+                }
+                return NumberRead::Stuck(at);
+            }
+        }
+    }
+    NumberRead::Stuck(at)
+}

@@ -1,0 +1,5 @@
+-- The laws of the crate `sheet`.
+pub mod Lines
+pub mod Fronts
+pub mod Ticks
+pub mod Answers

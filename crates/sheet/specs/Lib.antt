@@ -1,0 +1,4 @@
+-- The definitions of the crate `sheet`.
+pub mod Sheet
+pub mod Answers
+pub mod Read
