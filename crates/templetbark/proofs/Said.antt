@@ -1,0 +1,17 @@
+-- The struct that says an answer stands for the answer's own result. Assumes nothing.
+use mathlib.Core.Path.{_≡_, sym}
+use mathlib.Core.List.{List}
+use Prim.Native.Nat.{ℕ}
+use Rattle.tables.specs.Answer.{numberOf, placeOf, valueOf, resultOf}
+use Rattle.tables.specs.Refusal.{Result}
+use Rattle.tables.specs.declared.Answer.{Answer}
+use Rattle.tables.specs.declared.Said.{Said}
+use Rattle.tables.proofs.Answered.{result-same}
+use Rattle.templetbark.specs.Said.{saidOf}
+
+-- what holds of the answer's result holds of what is said
+pub said : (P : Result → Type 0) (a : Answer) (s : Said) (out : List ℕ) →
+    (s .number ≡ numberOf a) × (s .place ≡ placeOf a) × (s .value ≡ valueOf a) → P (resultOf a out) → P (saidOf s out)
+said P a s out e h =
+    let same = result-same (saidOf s out) (resultOf a out) (e .0) (e .1) (e .2) (let r : out ≡ out = λ i. out in r) in
+    rw same h

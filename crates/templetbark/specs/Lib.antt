@@ -1,0 +1,2 @@
+-- The definitions of the crate `templetbark`.
+pub mod Said
