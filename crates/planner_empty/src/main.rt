@@ -1,0 +1,4 @@
+// `planner` on an empty sheet.
+fn main() {
+    desk::run();
+}
