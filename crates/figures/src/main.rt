@@ -1,0 +1,157 @@
+// The figures of document 01, run: each line as the paper prints it, with the answer that the library gives.
+use tables::Said;
+
+fn main() {
+    planned(&[1, 1, 1]);
+    planned(&[2, 5, 5, 4, 7, 7]);
+    planned(&[2, 5, 5, 4, 6, 7]);
+    planned(&[2, 5, 5, 4, 5, 7]);
+    planned(&[1, 4, 4, 1, 6, 6, 4, 12, 12]);
+    timed(&[1, 4, 4, 1, 6, 6, 4, 12, 12], &[1, 1, 2, 1, 3, 3]);
+    timed(&[1, 4, 4, 1, 6, 6, 4, 12, 12], &[1, 1, 2, 1, 3, 4]);
+    timed(&[1, 4, 4, 1, 6, 6, 4, 12, 12], &[1, 1, 2, 1, 3, 1]);
+    planned(&[2, 3, 3, 2, 3, 3]);
+    planned(&[5, 4, 9]);
+    played(&[2, 5, 5, 4, 7, 7], &[1, 1, 2, 2], &[1, 0, 4, 0, 3, 2]);
+    played(&[2, 5, 5, 4, 7, 7], &[1, 1, 2, 2], &[1, 0, 4, 0, 2, 2]);
+    played(&[2, 5, 5, 4, 7, 7], &[1, 1, 2, 2], &[1, 0, 3, 0, 3, 2]);
+    planned(&[500000, 1000000, 1000000, 500000, 1000000, 1000000]);
+    planned(&[500000, 1000000, 1000000, 500001, 1000000, 1000000]);
+    planned(&[0, 1, 1]);
+    planned(&[1, 1000001, 1]);
+    read(b"");
+    read(b"tick 5\n");
+    played(&[2, 5, 5, 4, 7, 7], &[1, 1, 2, 2], &[]);
+    printed(b"tick 10\ntask 20 50 50\ntask 40 70 70\n");
+}
+
+// A task table to its planned table.
+fn planned(table: &[u32]) {
+    let mut out: [u32; 96] = [0; 96];
+    let said = templetbark::tb_plan(table, &mut out);
+    triples(table);
+    io::write_all(1, b": ");
+    if !refused(said) {
+        triples(front(&out, said));
+    }
+    io::write_all(1, b"\n");
+}
+
+// A task table and a plan to its times.
+fn timed(table: &[u32], plan: &[u32]) {
+    let mut out: [u32; 32] = [0; 32];
+    let said = templetbark::tb_times(table, plan, &mut out);
+    triples(table);
+    io::write_all(1, b", plan ");
+    numbers(plan);
+    io::write_all(1, b": times ");
+    if !refused(said) {
+        numbers(front(&out, said));
+    }
+    io::write_all(1, b"\n");
+}
+
+// A task table, a plan and a job list to its finishes.
+fn played(table: &[u32], plan: &[u32], jobs: &[u32]) {
+    let mut out: [u32; 8] = [0; 8];
+    let said = templetbark::tb_play(table, plan, jobs, &mut out);
+    triples(table);
+    io::write_all(1, b", plan ");
+    numbers(plan);
+    io::write_all(1, b", jobs ");
+    triples(jobs);
+    io::write_all(1, b": finishes ");
+    if !refused(said) {
+        numbers(front(&out, said));
+    }
+    io::write_all(1, b"\n");
+}
+
+// A sheet to its table.
+fn read(text: &[u8]) {
+    let mut out: [u32; 96] = [0; 96];
+    let said = templetbark::tb_sheet(text, &mut out);
+    io::write_all(1, b"sheet of ");
+    io::print_decimal(1, text.len() as u64);
+    io::write_all(1, b" bytes: ");
+    if !refused(said) {
+        triples(front(&out, said));
+    }
+    io::write_all(1, b"\n");
+}
+
+// A sheet to the printed plan.
+fn printed(text: &[u8]) {
+    let mut table: [u32; 96] = [0; 96];
+    let read = templetbark::tb_sheet(text, &mut table);
+    let mut plan: [u32; 96] = [0; 96];
+    let said = templetbark::tb_plan(front(&table, read), &mut plan);
+    let mut buf = io::buffer();
+    let shown = templetbark::print(front(&plan, said), &mut buf);
+    io::write_all(1, shown);
+}
+
+// Whether the answer is a refusal, which is then written.
+fn refused(said: Said) -> bool {
+    if said.number == 0 {
+        return false;
+    }
+    io::write_all(1, b"refused ");
+    number(said.number);
+    io::write_all(1, b" at ");
+    number(said.place);
+    true
+}
+
+// The front of an output that the answer's value counts.
+fn front(out: &[u32], said: Said) -> &[u32] {
+    let end = said.value as usize;
+    if out.len() < end {
+        return out;
+    }
+    &out[..end]
+}
+
+// Rows of three, as (2,5,5) (4,7,7), or none.
+fn triples(xs: &[u32]) {
+    if xs.len() == 0 {
+        io::write_all(1, b"none");
+    }
+    let mut i: usize = 0;
+    while i < xs.len() / 3 {
+        if 0 < i {
+            io::write_all(1, b" ");
+        }
+        triple(xs[3 * i], xs[3 * i + 1], xs[3 * i + 2]);
+        i += 1;
+    }
+}
+
+fn triple(a: u32, b: u32, c: u32) {
+    io::write_all(1, b"(");
+    number(a);
+    io::write_all(1, b",");
+    number(b);
+    io::write_all(1, b",");
+    number(c);
+    io::write_all(1, b")");
+}
+
+// Numbers, as 3,4,6, or none.
+fn numbers(xs: &[u32]) {
+    if xs.len() == 0 {
+        io::write_all(1, b"none");
+    }
+    let mut i: usize = 0;
+    while i < xs.len() {
+        if 0 < i {
+            io::write_all(1, b",");
+        }
+        number(xs[i]);
+        i += 1;
+    }
+}
+
+fn number(x: u32) {
+    io::print_decimal(1, x as u64);
+}
