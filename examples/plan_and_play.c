@@ -1,0 +1,45 @@
+/* Plans a table of two tasks, prints the plan, and plays one run under it. */
+#include <stdio.h>
+
+#include "templetbark.h"
+
+enum { ROWS = 2, JOBS = 2 };
+
+static int refused(const char *operation, tb_answer answer)
+{
+    if (answer.number != 0)
+        printf("%s refused %u %u\n", operation, (unsigned)answer.number, (unsigned)answer.place);
+    return answer.number != 0;
+}
+
+int main(void)
+{
+    /* C, D, T in ticks. */
+    const uint32_t table[3 * ROWS] = {2, 5, 5, 4, 7, 7};
+    uint32_t planned[3 * ROWS];
+    if (refused("plan", tb_plan(table, 3 * ROWS, planned, 3 * ROWS)))
+        return 1;
+
+    uint8_t text[256];
+    tb_answer printed = tb_print(planned, 3 * ROWS, text, sizeof text);
+    if (refused("print", printed))
+        return 1;
+    fwrite(text, 1, (size_t)printed.value, stdout);
+
+    /* The plan's rank and length columns are what play takes. */
+    uint32_t plan[2 * ROWS];
+    for (size_t row = 0; row < ROWS; row++) {
+        plan[2 * row] = planned[3 * row];
+        plan[2 * row + 1] = planned[3 * row + 1];
+    }
+
+    /* Row, release, run: the second task begins alone, the first arrives within its final region. */
+    const uint32_t jobs[3 * JOBS] = {1, 0, 4, 0, 3, 2};
+    uint32_t finishes[JOBS];
+    if (refused("play", tb_play(table, 3 * ROWS, plan, 2 * ROWS, jobs, 3 * JOBS, finishes, JOBS)))
+        return 1;
+    for (size_t job = 0; job < JOBS; job++)
+        printf("job of row %u released at %u finishes at %u\n", (unsigned)jobs[3 * job],
+               (unsigned)jobs[3 * job + 1], (unsigned)finishes[job]);
+    return 0;
+}

@@ -1,0 +1,119 @@
+//! The inputs that are measured: realistic tables, hard tables, long active periods, long and crowded runs.
+
+use common::bridge::{bytes, Call, Operation};
+use common::random::Random;
+
+const M: u32 = 1_000_000;
+
+/// The plan that times and play are measured with: ranks in table order, lengths of 1.
+fn in_table_order(table: &[u32]) -> Vec<u32> {
+    (1..=table.len() as u32 / 3).flat_map(|rank| [rank, 1]).collect()
+}
+
+fn plan_of(table: &[u32]) -> Call {
+    Call { operation: Operation::Plan, slices: vec![bytes(table), vec![0; 4 * table.len()]], number: 0 }
+}
+
+fn times_of(table: &[u32]) -> Call {
+    let slices = vec![bytes(table), bytes(&in_table_order(table)), vec![0; 4 * table.len() / 3]];
+    Call { operation: Operation::Times, slices, number: 0 }
+}
+
+fn play_of(table: &[u32], jobs: &[u32]) -> Call {
+    let slices = vec![bytes(table), bytes(&in_table_order(table)), bytes(jobs), vec![0; 4 * jobs.len() / 3]];
+    Call { operation: Operation::Play, slices, number: 0 }
+}
+
+/// Utilisations of `rows` rows that add up to `total`, every such list equally likely (UUniFast).
+fn uunifast(random: &mut Random, rows: usize, total: f64) -> Vec<f64> {
+    let mut left = total;
+    let mut shares = vec![];
+    for behind in (1..rows).rev() {
+        let next = left * random.fraction().powf(1.0 / behind as f64);
+        shares.push(left - next);
+        left = next;
+    }
+    shares.push(left);
+    shares
+}
+
+/// Twenty tables of so many rows and utilisation: spacings spread evenly over the powers from 1,000 to 100,000 ticks,
+/// deadlines from four fifths of the spacing to twice the spacing.
+pub fn realistic(rows: usize, utilisation: f64) -> Vec<Call> {
+    let mut random = Random((rows as u64) << 32 | (utilisation * 100.0) as u64);
+    let row = |random: &mut Random, share: f64| {
+        let t = 10f64.powf(3.0 + 2.0 * random.fraction()).round();
+        let c = (share * t).round().max(1.0);
+        let d = t * (0.8 + 1.2 * random.fraction());
+        [c as u32, d as u32, t as u32]
+    };
+    let table = |_| {
+        let shares = uunifast(&mut random, rows, utilisation);
+        let table: Vec<u32> = shares.into_iter().flat_map(|share| row(&mut random, share)).collect();
+        plan_of(&table)
+    };
+    (0..20).map(table).collect()
+}
+
+fn rows_and(ones: usize, others: &[[u32; 3]]) -> Vec<u32> {
+    [[1, M, M].repeat(ones), others.concat()].concat()
+}
+
+pub fn hard() -> Vec<(&'static str, Call)> {
+    let many_releases = rows_and(27, &[[1_639, M, M], [1, M, 2], [1, M, 3], [1, M, 8], [1, M, 25]]);
+    let tight_deadline = rows_and(27, &[[6_383, 6_537, M], [1, M, 3], [1, M, 3], [1, M, 4], [1, M, 13]]);
+    let never_passes = rows_and(31, &[[900_000, 899_999, M]]);
+    vec![
+        ("plan: 27 rows (1,M,M), one of C 1,639, spacings 2, 3, 8, 25", plan_of(&many_releases)),
+        ("plan: 27 rows (1,M,M), one (6383,6537,M), spacings 3, 3, 4, 13", plan_of(&tight_deadline)),
+        ("plan: 31 rows (1,M,M), one (900000,899999,M)", plan_of(&never_passes)),
+    ]
+}
+
+pub fn long_active_periods() -> Vec<(&'static str, Call)> {
+    let many_jobs = [499_999, M, M, 1, M, 2];
+    let slow_approach = [1, M, 2, 1, M, 3, 1, M, 7, 1, M, 43, 500, M, M];
+    let crowd = [[3, M, 100].repeat(31), vec![60_000, M, M]].concat();
+    vec![
+        ("times: one row above, 499,999 jobs in the active period", times_of(&many_jobs)),
+        ("times: spacings 2, 3, 7, 43 above, an active period of 903,000 ticks", times_of(&slow_approach)),
+        ("times: 31 rows above of spacing 100, an active period of 860,000 ticks", times_of(&crowd)),
+    ]
+}
+
+/// 32 rows with lengths of 1, so many jobs, the runs given by the job's number.
+fn run(t: u32, c: u32, jobs: u32, run: impl Fn(u32) -> u32) -> Call {
+    let list: Vec<u32> = (0..jobs).flat_map(|job| [job % 32, job / 32 * t, run(job)]).collect();
+    play_of(&[c, M, t].repeat(32), &list)
+}
+
+/// Each row's job is finished before its next.
+pub fn spaced(jobs: u32) -> Call {
+    run(200, 5, jobs, |job| 1 + job % 5)
+}
+
+/// Released much faster than they can run: nearly all are pending at once.
+pub fn flood(jobs: u32) -> Call {
+    run(1, 40, jobs, |job| 1 + job % 40)
+}
+
+/// Each job is preempted after two of its three ticks by the next, of higher rank, until the lowest rank comes round again.
+pub fn preempted(jobs: u32) -> Call {
+    let list: Vec<u32> = (0..jobs).flat_map(|job| [31 - job % 32, job * 2, 3]).collect();
+    play_of(&[3, M, 64].repeat(32), &list)
+}
+
+pub fn longest_run() -> Call {
+    run(7_000, M, 4_096, |_| M)
+}
+
+pub fn texts() -> Vec<(&'static str, Call)> {
+    let line = b"task 1000000 2000000 3000000\n";
+    let sheet = [&b"tick 1000\n"[..], &line.repeat(32)].concat();
+    let planned: Vec<u32> = (0..32).flat_map(|row| [row + 1, 1_000 * row + 1, M - row]).collect();
+    vec![
+        ("sheet of 32 rows", Call { operation: Operation::Sheet, slices: vec![sheet, vec![0; 4 * 96]], number: 0 }),
+        ("print of 32 rows", Call { operation: Operation::Print, slices: vec![bytes(&planned), vec![0; 4_096]], number: 0 }),
+        ("fit of 32 rows", Call { operation: Operation::Fit, slices: vec![bytes(&planned)], number: 4_096 }),
+    ]
+}

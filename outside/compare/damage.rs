@@ -1,0 +1,97 @@
+//! Ways to damage tables, plans, job lists and sheets, so that every refusal comes up at many places and several at once.
+
+use common::random::Random;
+
+const BAD_NUMBERS: [u32; 5] = [0, 1_000_001, 1_000_002, 1 << 31, u32::MAX];
+
+/// Leaves numbers out or adds some.
+fn resize(random: &mut Random, numbers: &mut Vec<u32>, beyond: usize) {
+    match random.below(5) {
+        0 => {
+            numbers.pop();
+        }
+        1 => numbers.push(1),
+        2 => numbers.clear(),
+        3 => numbers.resize(beyond, 1),
+        _ => numbers.truncate(random.below(numbers.len() + 1)),
+    }
+}
+
+pub fn table(random: &mut Random, table: &mut Vec<u32>) {
+    if random.once_in(3) {
+        resize(random, table, 99);
+    } else if !table.is_empty() {
+        let at = random.below(table.len());
+        table[at] = random.pick(&BAD_NUMBERS);
+    }
+}
+
+pub fn plan(random: &mut Random, plan: &mut Vec<u32>, table: &[u32]) {
+    if random.once_in(4) || plan.is_empty() {
+        return resize(random, plan, 66);
+    }
+    let rows = plan.len() / 2;
+    let row = random.below(rows.max(1));
+    let c = table.get(3 * row).copied().unwrap_or(1);
+    let (at, value) = match random.below(6) {
+        0 => (2 * row, 0),
+        1 => (2 * row, rows as u32 + 1),
+        2 => (2 * row, plan[2 * random.below(rows.max(1))]),
+        3 => (2 * row + 1, 0),
+        4 => (2 * row + 1, c.wrapping_add(1)),
+        _ => (random.below(plan.len()), random.pick(&BAD_NUMBERS)),
+    };
+    if at < plan.len() {
+        plan[at] = value;
+    }
+}
+
+pub fn jobs(random: &mut Random, jobs: &mut Vec<u32>, table: &[u32]) {
+    if random.once_in(5) || jobs.len() < 3 {
+        return resize(random, jobs, 3 * 4_097);
+    }
+    let count = jobs.len() / 3;
+    let job = 3 * random.below(count);
+    let row = (jobs[job] as usize).min((table.len() / 3).saturating_sub(1));
+    match random.below(8) {
+        0 => jobs[job] = (table.len() / 3) as u32,
+        1 => jobs[job + 1] = random.pick(&[1_000_000, 1_000_001, u32::MAX]),
+        2 => jobs[job + 2] = 0,
+        3 => jobs[job + 2] = table.get(3 * row).copied().unwrap_or(1).wrapping_add(1),
+        4 => jobs[job + 1] = jobs[job + 1].wrapping_sub(1),
+        5 => jobs[job + 1] = jobs[job + 1].wrapping_add(1),
+        6 => jobs[job] = random.below(table.len() / 3 + 1) as u32,
+        _ => {
+            let other = 3 * random.below(count);
+            for i in 0..3 {
+                jobs.swap(job + i, other + i);
+            }
+        }
+    }
+}
+
+pub fn sheet(random: &mut Random, text: &mut Vec<u8>) {
+    const BYTES: &[u8] = b"tick task0123456789  \n\n\r\t+-.,\0\x7f\x80\xff";
+    let at = random.below(text.len() + 1);
+    let on_a_byte = at.min(text.len().saturating_sub(1));
+    match random.below(9) {
+        0 => text.truncate(at),
+        1 => text.insert(at, random.pick(BYTES)),
+        2 if !text.is_empty() => {
+            text.remove(on_a_byte);
+        }
+        3 if !text.is_empty() => text[on_a_byte] = random.pick(BYTES),
+        4 => text.splice(at..at, *b"0").for_each(drop),
+        5 => {
+            text.pop();
+        }
+        6 => {
+            let line = *b"task 1 2 3\n";
+            for _ in 0..random.below(33) {
+                text.extend(line);
+            }
+        }
+        7 => text.splice(at..at, *b"00000000000000000000").for_each(drop),
+        _ => text.extend_from_within(..at),
+    }
+}

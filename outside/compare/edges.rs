@@ -1,0 +1,139 @@
+//! Fixed cases at the limits: the horizon, 32 rows, 4,096 jobs, the last release, places at both ends, empty slices.
+
+use crate::judge::Judge;
+
+const M: u32 = 1_000_000;
+
+fn busy_period_at_the_horizon(judge: &mut Judge) {
+    let of_the_horizon: [&[u32]; 3] =
+        [&[M, M, M], &[200_000, M, 399_999, 200_000, M, 599_999], &[76_008, M, 90_918, 1_520, M, 201_384, 668, M, 4_275]];
+    let one_more: [&[u32]; 1] = [&[200_001, M, 399_999, 199_999, M, 600_000]];
+    for table in of_the_horizon {
+        let plan: Vec<u32> = (1..=table.len() as u32 / 3).flat_map(|rank| [rank, 1]).collect();
+        if judge.times(table, &plan, table.len()).is_none() {
+            judge.fault(|| format!("{table:?} has a busy period of the horizon and no times"));
+        }
+        judge.verdict(table, &plan);
+        judge.counts.add("table: a busy period of exactly the horizon");
+    }
+    for table in one_more {
+        let plan = [1, 1, 2, 1];
+        judge.plan(table, 6);
+        judge.times(table, &plan, 2);
+        judge.verdict(table, &plan);
+        judge.counts.add("table: a busy period one tick beyond the horizon");
+    }
+}
+
+/// The sum of the work passes 2^64 after a few steps.
+fn heaviest_tables(judge: &mut Judge) {
+    for rows in [1, 2, 32] {
+        let table = [M, M, 1].repeat(rows);
+        let plan: Vec<u32> = (1..=rows as u32).flat_map(|rank| [rank, M]).collect();
+        judge.plan(&table, 3 * rows);
+        judge.times(&table, &plan, rows);
+        judge.verdict(&table, &plan);
+    }
+}
+
+fn counts_of_rows(judge: &mut Judge) {
+    for numbers in 0..=103 {
+        let table = [1, 50, 50].repeat(35)[..numbers].to_vec();
+        let plan: Vec<u32> = (1..=numbers as u32 / 3).flat_map(|rank| [rank, 1]).collect();
+        judge.plan(&table, numbers);
+        judge.times(&table, &plan, numbers / 3);
+        judge.verdict(&table, &plan);
+        judge.play(&table, &plan, &[0, 0, 1], 1);
+        judge.print(&table, 2_000);
+        judge.fit(&table, 2_000);
+        if let Some(short) = numbers.checked_sub(1) {
+            judge.plan(&table, short);
+            judge.times(&table, &plan, (numbers / 3).saturating_sub(1));
+        }
+    }
+}
+
+/// Each number of a table, a plan and a job list put just outside its range, alone and before a second fault.
+fn places(judge: &mut Judge) {
+    let table = [3, 9, 9].repeat(32);
+    let plan: Vec<u32> = (1..=32).flat_map(|rank| [rank, 2]).collect();
+    let jobs: Vec<u32> = (0..40).flat_map(|job| [job % 32, job, 3]).collect();
+    for at in 0..table.len() {
+        for bad in [0, M + 1, u32::MAX] {
+            let mut table = table.clone();
+            table[at] = bad;
+            judge.plan(&table, 96);
+            judge.times(&table, &plan, 32);
+            judge.verdict(&table, &plan);
+            judge.play(&table, &plan, &jobs, 40);
+            table[95] = 0;
+            judge.plan(&table, 0);
+        }
+    }
+    for at in 0..plan.len() {
+        for bad in [0, 4, 33, u32::MAX, plan[(at + 2) % plan.len()]] {
+            let mut plan = plan.clone();
+            plan[at] = bad;
+            judge.times(&table, &plan, 32);
+            judge.verdict(&table, &plan);
+            judge.play(&table, &plan, &jobs, 40);
+        }
+    }
+    for at in 0..jobs.len() {
+        for bad in [0, 4, 32, M, M + 1, u32::MAX, jobs[at] + 1, jobs[at].saturating_sub(1)] {
+            let mut jobs = jobs.clone();
+            jobs[at] = bad;
+            judge.play(&table, &plan, &jobs, 40);
+        }
+    }
+}
+
+fn job_lists(judge: &mut Judge) {
+    let (table, plan) = ([1, 1, 1], [1, 1]);
+    for count in [0, 1, 4_095, 4_096, 4_097, 5_000] {
+        let jobs: Vec<u32> = (0..count).flat_map(|job| [0, job, 1]).collect();
+        judge.play(&table, &plan, &jobs, count as usize);
+        judge.play(&table, &plan, &jobs, (count as usize).saturating_sub(1));
+        judge.play(&table, &plan, &[&jobs[..], &[0]].concat(), count as usize);
+    }
+    judge.play(&table, &plan, &[0, M, 1], 1);
+    judge.play(&table, &plan, &[0, M - 1, 1, 0, M, 1], 2);
+    judge.play(&table, &plan, &[0, M, 1, 0, M, 1], 2);
+    judge.play(&[1, 1, M, 1, 1, 1], &[1, 1, 2, 1], &[0, 0, 1, 1, 0, 1, 0, M - 1, 1], 3);
+    judge.play(&[1, 1, M, 1, 1, 1], &[1, 1, 2, 1], &[0, 0, 1, 1, 0, 1, 0, M, 1], 3);
+}
+
+fn long_texts(judge: &mut Judge) {
+    let line = b"task 1000000000 1000000000 1000000000\n";
+    for lines in [31, 32, 33, 2_000] {
+        judge.sheet(&[&b"tick 1000\n"[..], &line.repeat(lines)].concat(), 96);
+        judge.sheet(&[&b"tick 999\n"[..], &line.repeat(lines)].concat(), 96);
+        judge.sheet(&[&b"tick 1000\n"[..], &line.repeat(lines)].concat(), 95);
+    }
+    judge.sheet(&b"tick 1\ntask 1 1 1\n".repeat(3_000), 96);
+    judge.sheet(&[b'9'; 100_000], 96);
+    judge.sheet(&[&b"tick 1"[..], &[b'0'; 100_000]].concat(), 96);
+    judge.sheet(b"tick 1\ntask 1 2 18446744073709551617\n", 3);
+    judge.sheet(b"tick 7\ntask 1 7 8\n", 3);
+}
+
+/// The header names the longest sheet and the longest printed plan.
+fn longest_texts(judge: &mut Judge) {
+    let sheet = [&b"tick 1000\n"[..], &b"task 1000000000 1000000000 1000000000\n".repeat(32)].concat();
+    let page = [u32::MAX; 96];
+    if sheet.len() != 1_226 || judge.sheet(&sheet, 96).is_none() || judge.fit(&page, 1_950) != Some(1_950) {
+        judge.fault(|| "the longest sheet or the longest printed plan is not what the header says".into());
+    }
+    judge.print(&page, 1_950);
+    judge.print(&page, 1_949);
+}
+
+pub fn all(judge: &mut Judge) {
+    busy_period_at_the_horizon(judge);
+    heaviest_tables(judge);
+    counts_of_rows(judge);
+    places(judge);
+    job_lists(judge);
+    long_texts(judge);
+    longest_texts(judge);
+}

@@ -1,0 +1,76 @@
+//! Document 01's figures, starred and not, put to the second planner and to the library.
+
+use crate::judge::Judge;
+use second::{Answer, Level, Placed, Refusal, Row};
+
+const M: u32 = 1_000_000;
+
+fn refused<T>(number: u32, place: u32) -> Answer<T> {
+    Err(Refusal { number, place })
+}
+
+/// The judge holds the library to the second planner; this holds the second planner to the document.
+fn same<T: PartialEq + std::fmt::Debug>(judge: &mut Judge, what: &str, second: T, printed: T) {
+    judge.counts.add("figures of document 01");
+    if second != printed {
+        judge.fault(|| format!("{what}: the second planner gives {second:?}, document 01 prints {printed:?}"));
+    }
+}
+
+fn planned(judge: &mut Judge, table: &[u32], printed: Answer<&[u32]>) {
+    judge.plan(table, table.len());
+    same(judge, &format!("plan {table:?}"), second::plan(table, table.len()), printed.map(<[u32]>::to_vec));
+}
+
+fn timed(judge: &mut Judge, table: &[u32], plan: &[u32], printed: &[u32]) {
+    judge.times(table, plan, printed.len());
+    same(judge, &format!("times {table:?} {plan:?}"), second::times(table, plan, printed.len()), Ok(printed.to_vec()));
+}
+
+fn played(judge: &mut Judge, table: &[u32], plan: &[u32], jobs: &[u32], printed: &[u32]) {
+    judge.play(table, plan, jobs, printed.len());
+    same(judge, &format!("play {jobs:?}"), second::play(table, plan, jobs, printed.len()), Ok(printed.to_vec()));
+}
+
+fn read(judge: &mut Judge, text: &[u8], printed: Answer<&[u32]>) {
+    judge.sheet(text, 6);
+    same(judge, &format!("sheet {text:?}"), second::sheet(text, 6), printed.map(<[u32]>::to_vec));
+}
+
+pub fn all(judge: &mut Judge) {
+    planned(judge, &[1, 1, 1], Ok(&[1, 1, 1]));
+    planned(judge, &[2, 5, 5, 4, 7, 7], Ok(&[1, 1, 3, 2, 2, 7]));
+    planned(judge, &[2, 5, 5, 4, 6, 7], Ok(&[1, 1, 4, 2, 3, 6]));
+    planned(judge, &[2, 5, 5, 4, 5, 7], refused(5, 0));
+    planned(judge, &[1, 4, 4, 1, 6, 6, 4, 12, 12], Ok(&[2, 1, 2, 1, 1, 1, 3, 1, 8]));
+    planned(judge, &[2, 3, 3, 2, 3, 3], refused(4, 0));
+    planned(judge, &[5, 4, 9], refused(5, 0));
+    planned(judge, &[500_000, M, M, 500_000, M, M], Ok(&[2, 1, M, 1, 1, 500_000]));
+    planned(judge, &[500_000, M, M, 500_001, M, M], refused(4, 0));
+    planned(judge, &[0, 1, 1], refused(3, 0));
+    planned(judge, &[1, M + 1, 1], refused(3, 1));
+
+    let second_table = [2, 5, 5, 4, 7, 7];
+    let its_plan = [1, 1, 2, 2];
+    let level = Level::of(&Row::of_table(&second_table), &Placed::of_plan(&its_plan), 1);
+    same(judge, "the second row's jobs", level.spans(2), vec![6, 7]);
+
+    let three = [1, 4, 4, 1, 6, 6, 4, 12, 12];
+    timed(judge, &three, &[1, 1, 2, 1, 3, 3], &[3, 4, 6]);
+    timed(judge, &three, &[1, 1, 2, 1, 3, 4], &[4, 6, 6]);
+    timed(judge, &three, &[1, 1, 2, 1, 3, 1], &[1, 2, 8]);
+
+    played(judge, &second_table, &its_plan, &[1, 0, 4, 0, 3, 2], &[4, 6]);
+    played(judge, &second_table, &its_plan, &[1, 0, 4, 0, 2, 2], &[6, 4]);
+    played(judge, &second_table, &its_plan, &[1, 0, 3, 0, 3, 2], &[3, 5]);
+    played(judge, &second_table, &its_plan, &[], &[]);
+
+    read(judge, b"", refused(9, 0));
+    read(judge, b"tick 5\n", refused(9, 7));
+    read(judge, b"tick 10\ntask 20 50 50\ntask 40 70 70\n", Ok(&second_table));
+
+    let page = b"plan 2\nrow 0 rank 1 length 1 response 3\nrow 1 rank 2 length 2 response 7\n";
+    let of_plan = [1, 1, 3, 2, 2, 7];
+    judge.print(&of_plan, page.len());
+    same(judge, "the printed plan", second::print(&of_plan, page.len()), Ok(page.to_vec()));
+}

@@ -1,0 +1,130 @@
+//! Large numbers: plans of up to 32 rows held at their edges, long runs held to small ones scaled up.
+
+use crate::judge::Judge;
+use crate::make;
+use common::random::Random;
+use second::{busy_period, Level, Placed, Refusal, Row};
+
+const M: u64 = 1_000_000;
+
+/// Rows with spacings from `least` to M that share about `percent` of the processor, and deadlines that are mostly tight.
+fn wide_table(random: &mut Random, rows: usize, least: u64, percent: u64) -> Vec<u32> {
+    let row = |_| {
+        let t = random.from_to(least, M);
+        let about = (t * percent / 100 / rows as u64).max(1);
+        let c = random.from_to(about.div_ceil(2), about + about / 2);
+        let d = if random.once_in(3) { random.from_to(c, 2 * t) } else { random.from_to(t / 2, t) };
+        [c as u32, d.clamp(1, M) as u32, t as u32]
+    };
+    (0..rows).flat_map(row).collect()
+}
+
+/// Whether each rank went to the row with the least shortest length, the earliest among equals, with its response: the
+/// length taken passes, and one shorter (or the same, of an earlier row) fails. What passes with a length passes with more.
+fn held_at_edges(rows: &[Row], planned: &[u32]) -> bool {
+    let placed: Vec<Placed> = planned.chunks(3).map(|p| Placed { rank: p[0], length: p[1] }).collect();
+    (0..rows.len()).all(|y| {
+        let Placed { rank, length } = placed[y];
+        let below = placed.iter().filter(|p| p.rank > rank).map(|p| u64::from(p.length) - 1);
+        let blocking = below.max().unwrap_or(0);
+        let response = |z: usize, length: u64| {
+            let above = (0..rows.len()).filter(|&j| j != z && placed[j].rank <= rank).map(|j| rows[j]).collect();
+            Level::new(rows[z], above, blocking).response(length)
+        };
+        let taken = response(y, length.into());
+        let beaten = (0..rows.len()).filter(|&z| placed[z].rank <= rank).all(|z| {
+            let must_fail = if z < y { u64::from(length) } else { u64::from(length) - 1 }.min(rows[z].c);
+            must_fail == 0 || response(z, must_fail) > rows[z].d
+        });
+        taken == u64::from(planned[3 * y + 2]) && taken <= rows[y].d && beaten
+    })
+}
+
+/// A plan that is given is held at its edges; one that is refused 5 has no plan that is known to pass.
+fn plan(judge: &mut Judge, table: &[u32], known: &[u32]) {
+    let rows = Row::of_table(table);
+    let some_plan_passes = judge.verdict(table, known) == Some(true);
+    let right = match (judge.plan_alone(table), busy_period(&rows)) {
+        (Ok(planned), Some(_)) => {
+            judge.counts.add("large: plans held at their edges");
+            if planned.chunks(3).any(|p| p[1] > 1) {
+                judge.counts.add("large: planned with a length above 1");
+            }
+            held_at_edges(&rows, &planned)
+        }
+        (Err(refusal), Some(_)) => refusal == Refusal { number: 5, place: 0 } && !some_plan_passes,
+        (answer, None) => answer == Err(Refusal { number: 4, place: 0 }),
+    };
+    if some_plan_passes {
+        judge.counts.add("large: some plan is known to pass");
+    }
+    if !right {
+        judge.fault(|| format!("the plan of {table:?} is not the one chosen, {known:?} passing or not: {some_plan_passes}"));
+    }
+}
+
+pub fn plans(judge: &mut Judge, random: &mut Random, cases: usize) {
+    for _ in 0..cases {
+        let rows = random.pick(&[2, 3, 5, 8, 16, 32]);
+        let least = random.pick(&[20_000, 100_000, 500_000]);
+        let percent = random.from_to(40, 95);
+        let table = wide_table(random, rows, least, percent);
+        let (tight, known) = make::tight(random, &table);
+        let table = if random.once_in(2) { table } else { tight };
+        plan(judge, &table, &known);
+        judge.times(&table, &known, rows);
+    }
+}
+
+/// Tables so overloaded that a sum of their work leaves 32 bits at once, and 64 bits if it went on.
+pub fn overloads(judge: &mut Judge, random: &mut Random, cases: usize) {
+    for _ in 0..cases {
+        let rows = 1 + random.below(32);
+        let least = random.pick(&[10_000, 100_000]);
+        let row = |_| [random.from_to(1, M) as u32, random.from_to(1, M) as u32, random.from_to(least, M) as u32];
+        let table: Vec<u32> = (0..rows).flat_map(row).collect();
+        let known = make::plan(random, &table);
+        plan(judge, &table, &known);
+        if judge.times(&table, &known, rows).is_none() {
+            judge.counts.add("large: overloaded tables");
+        }
+    }
+}
+
+/// Every number of a run times `factor`. Decisions fall on multiples of it, and there a job is in its region of length q
+/// exactly if the larger job is in one of any length from factor·(q−1) + 1 to factor·q. So every decision is the same, and
+/// every finish is `factor` times as late.
+pub fn scaled_run(judge: &mut Judge, random: &mut Random, table: &[u32], jobs: &[u32], factor: u32) {
+    let plan = make::plan(random, table);
+    let small = second::play(table, &plan, jobs, jobs.len() / 3);
+    let scale = |numbers: &[u32]| numbers.iter().map(|v| v * factor).collect::<Vec<u32>>();
+    let regions = |p: &[u32]| [p[0], p[1] * factor - random.below(factor as usize) as u32];
+    let large_plan: Vec<u32> = plan.chunks(2).flat_map(regions).collect();
+    let large_jobs: Vec<u32> = jobs.chunks(3).flat_map(|j| [j[0], j[1] * factor, j[2] * factor]).collect();
+    let expected = small.map(|finishes| scale(&finishes));
+    judge.counts.add("large: runs scaled up");
+    if jobs.len() / 3 == 4_096 {
+        judge.counts.add("large: runs of 4,096 jobs");
+    }
+    judge.play_expecting(&scale(table), &large_plan, &large_jobs, jobs.len() / 3, expected);
+}
+
+pub fn runs(judge: &mut Judge, random: &mut Random, cases: usize) {
+    for _ in 0..cases {
+        let table = make::table(random);
+        let most = M / u64::from(*table.iter().max().unwrap_or(&1));
+        let factor = random.pick(&[1, 2, 7, 100, most]).min(most);
+        let jobs = make::jobs(random, &table, 4_096, (M / factor).min(3_000));
+        scaled_run(judge, random, &table, &jobs, factor as u32);
+    }
+}
+
+/// 4,096 jobs that all run 1,000,000 ticks, the longest run there is; and a flood of them all at tick 0 or soon after.
+pub fn longest_run(judge: &mut Judge, random: &mut Random) {
+    let table = [1_000, 7, 7].repeat(32);
+    let jobs: Vec<u32> = (0..4_096).flat_map(|job| [job % 32, job / 32 * 7, 1_000]).collect();
+    scaled_run(judge, random, &table, &jobs, 1_000);
+    let flood = [3, 9, 1].repeat(32);
+    let jobs: Vec<u32> = (0..4_096).flat_map(|job| [job % 32, job / 32, 1 + job % 3]).collect();
+    scaled_run(judge, random, &flood, &jobs, 1);
+}

@@ -1,0 +1,91 @@
+//! Compares the library with the second planner through the C surface, on fixed seeds, and counts what came up.
+
+mod afford;
+mod cases;
+mod complete;
+mod counts;
+mod damage;
+mod edges;
+mod every_run;
+mod figures;
+mod judge;
+mod large;
+mod make;
+mod traits;
+
+use common::bridge::{Bridge, Operation};
+use common::random::Random;
+use counts::Counts;
+use judge::Judge;
+
+/// The refusals that each operation can give.
+const REFUSALS: [(Operation, &[u32]); 7] = [
+    (Operation::Plan, &[1, 3, 2, 4, 5]),
+    (Operation::Times, &[1, 3, 6, 2, 4]),
+    (Operation::Verdict, &[1, 3, 6, 4]),
+    (Operation::Play, &[1, 3, 6, 7, 8, 2]),
+    (Operation::Sheet, &[9, 3, 2]),
+    (Operation::Print, &[1, 2]),
+    (Operation::Fit, &[1, 2]),
+];
+
+const NOTABLE: [&str; 18] = [
+    "Verdict yes",
+    "Verdict no",
+    "table: D above T",
+    "table: C equal to T",
+    "table: utilisation exactly 1, with a busy period",
+    "table: a busy period of exactly the horizon",
+    "table: a busy period one tick beyond the horizon",
+    "row: more than one job in the active period",
+    "row: a response that is not the first job's",
+    "planned: a length above 1",
+    "planned: ranks not in table order",
+    "complete: some plan passes",
+    "complete: no plan passes",
+    "tables with every run in a window",
+    "large: planned with a length above 1",
+    "large: overloaded tables",
+    "large: some plan is known to pass",
+    "large: runs of 4,096 jobs",
+];
+
+fn asked_for() -> impl Iterator<Item = String> {
+    let refusals = REFUSALS.into_iter().flat_map(|(operation, numbers)| {
+        let refused = numbers.iter().map(move |number| format!("{operation:?} refused {number}"));
+        refused.chain([format!("{operation:?} given")])
+    });
+    refusals.chain(NOTABLE.into_iter().map(String::from))
+}
+
+fn main() -> std::io::Result<()> {
+    let words: Vec<String> = std::env::args().skip(1).collect();
+    let mut judge = Judge::new(Bridge::start(&words)?, Counts::asking_for(asked_for()));
+    let mut random = Random(1);
+    let mut timed = |name: &str, part: &mut dyn FnMut(&mut Judge)| {
+        let began = std::time::Instant::now();
+        let before = judge.calls;
+        part(&mut judge);
+        println!("{:>9} calls in {:>6.1} s  {name}", judge.calls - before, began.elapsed().as_secs_f64());
+    };
+    timed("figures of document 01", &mut figures::all);
+    timed("edges", &mut edges::all);
+    timed("every byte of a sheet", &mut cases::every_byte_of_a_sheet);
+    timed("tables and plans", &mut |judge| cases::tables_and_plans(judge, &mut random, 16_000));
+    timed("runs", &mut |judge| cases::runs(judge, &mut random, 8_000));
+    timed("sheets", &mut |judge| cases::sheets(judge, &mut random, 12_000));
+    timed("printed plans", &mut |judge| cases::pages(judge, &mut random, 3_000));
+    timed("all ranks and lengths of small tables", &mut |judge| complete::against_all_plans(judge, &mut random, 800));
+    timed("every run of small tables", &mut |judge| every_run::of_small_tables(judge, &mut random, 1_200));
+    timed("large plans", &mut |judge| large::plans(judge, &mut random, 3_000));
+    timed("large overloads", &mut |judge| large::overloads(judge, &mut random, 500));
+    timed("large runs", &mut |judge| large::runs(judge, &mut random, 1_000));
+    timed("the longest run", &mut |judge| large::longest_run(judge, &mut random));
+    judge.counts.print();
+    let missing = judge.counts.missing();
+    for kind in &missing {
+        println!("NEVER CAME UP: {kind}");
+    }
+    println!("compare: {} calls, {} faults, {} kinds of case missing", judge.calls, judge.faults, missing.len());
+    std::process::exit(i32::from(judge.faults > 0 || !missing.is_empty()));
+}

@@ -1,0 +1,71 @@
+//! A text sheet read in one pass: each step takes one more part of the text or says where the text went wrong.
+
+use crate::answer::Refusal;
+use crate::rows::{MOST, PLACES};
+
+/// What is left to read, by its place.
+struct Cursor<'a> {
+    text: &'a [u8],
+    at: usize,
+}
+
+impl Cursor<'_> {
+    fn here(&self) -> Option<u8> {
+        self.text.get(self.at).copied()
+    }
+
+    fn word(&mut self, word: &[u8]) -> Result<(), Refusal> {
+        for byte in word {
+            if self.here() != Some(*byte) {
+                return Err(Refusal(9, self.at));
+            }
+            self.at += 1;
+        }
+        Ok(())
+    }
+
+    fn number(&mut self, most: u64) -> Result<u64, Refusal> {
+        let mut value = 0;
+        while let Some(digit @ b'0'..=b'9') = self.here() {
+            let longer = value * 10 + u64::from(digit - b'0');
+            if longer == 0 || longer > most {
+                break;
+            }
+            value = longer;
+            self.at += 1;
+        }
+        if value == 0 {
+            return Err(Refusal(9, self.at));
+        }
+        Ok(value)
+    }
+}
+
+pub fn table(text: &[u8]) -> Result<([u32; 3 * PLACES], usize), Refusal> {
+    let mut cursor = Cursor { text, at: 0 };
+    cursor.word(b"tick ")?;
+    let tick = cursor.number(1_000)?;
+    cursor.word(b"\n")?;
+    let mut ticks = [0u64; 3 * PLACES];
+    let mut rows = 0;
+    while rows == 0 || cursor.at < text.len() {
+        if rows == PLACES {
+            return Err(Refusal(9, cursor.at));
+        }
+        cursor.word(b"task")?;
+        for value in ticks[3 * rows..3 * rows + 3].iter_mut() {
+            cursor.word(b" ")?;
+            *value = (cursor.number(1_000_000_000)? + tick - 1) / tick;
+        }
+        cursor.word(b"\n")?;
+        rows += 1;
+    }
+    let mut table = [0; 3 * PLACES];
+    for (i, (number, value)) in table.iter_mut().zip(ticks).take(3 * rows).enumerate() {
+        if value > MOST {
+            return Err(Refusal(3, i));
+        }
+        *number = value as u32;
+    }
+    Ok((table, 3 * rows))
+}

@@ -1,0 +1,35 @@
+//! What makes a table, a plan or a job list unsound, and where.
+
+use crate::{Row, MOST, MOST_ROWS};
+
+pub fn shape_fault(table: &[u32]) -> bool {
+    !(1..=MOST_ROWS).any(|rows| table.len() == 3 * rows)
+}
+
+pub fn range_fault(table: &[u32]) -> Option<usize> {
+    table.iter().position(|v| !(1..=MOST).contains(&u64::from(*v)))
+}
+
+pub fn plan_fault(rows: &[Row], plan: &[u32]) -> Option<usize> {
+    if plan.len() != 2 * rows.len() {
+        return Some(MOST_ROWS);
+    }
+    let rank = |i: usize| plan[2 * i];
+    (0..rows.len()).find(|&i| {
+        let ranks = 1..=rows.len() as u32;
+        let lengths = 1..=rows[i].c;
+        !ranks.contains(&rank(i)) || (0..i).any(|j| rank(j) == rank(i)) || !lengths.contains(&u64::from(plan[2 * i + 1]))
+    })
+}
+
+/// The first job that breaks a rule by itself or against any earlier job, every pair looked at.
+pub fn job_fault(rows: &[Row], jobs: &[u32]) -> Option<usize> {
+    let jobs: Vec<(usize, u64, u64)> = jobs.chunks(3).map(|j| (j[0] as usize, j[1].into(), j[2].into())).collect();
+    (0..jobs.len()).find(|&later| {
+        let (row, release, run) = jobs[later];
+        row >= rows.len()
+            || release > MOST
+            || !(1..=rows[row].c).contains(&run)
+            || jobs[..later].iter().any(|&(r, at, _)| at > release || (r == row && release < at + rows[row].t))
+    })
+}
