@@ -312,13 +312,13 @@ unfolding every
 all-right [] e = tt
 all-right (f ∷ fs) e = (right f (and-left (test f) _ e), all-right fs (and-right (test f) _ e))
 
--- the checker computes the test of the whole table
-all-figures : Right further × StarredFigures
+-- the checker computes the test of the whole table, and of the figure beside it
+all-figures : StarredFigures × Right further
 unfolding figures every test either plannable row-responds finish-test look passes-h period start value start-seen no-higher as-high highest-job responds implies known passing short trials-known comes-after takes-test none-test once-test filled-test stopped-test shortest-test table-test plan-test jobs-test first all up sum largest count load busy-side active-side start-side longest blocking one-of pick executed
-all-figures = all-right (further ∷ figures) refl
+all-figures = (all-right figures refl, right further refl)
 
 pub starred-figures : StarredFigures
-starred-figures = all-figures .1
+starred-figures = all-figures .0
 
 pub further-figure : Right further
-further-figure = all-figures .0
+further-figure = all-figures .1
