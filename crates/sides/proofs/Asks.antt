@@ -52,10 +52,14 @@ table-ext C T = rw (C, T)
 
 -- where all rows have stored theirs, both are 0 past them
 pub stored-all : (rows : List Row) (asks : List ℕ) → length rows ≡ 32 → Stored rows asks 32 → Asks rows asks
-stored-all rows asks many w n =
-    table-ext
-    (fun-ext (λ k. by-le 32 k (λ h. past (2 * k) (omega arith) ∙ ap (λ r. r .c) (none k h)) (w .runs k)))
-    (fun-ext (λ k. by-le 32 k (λ h. past (2 * k + 1) (omega arith) ∙ ap (λ r. r .t) (none k h)) (w .spacings k)))
+stored-all rows asks many w =
+    record {
+      same =
+          λ n. table-ext
+          (fun-ext (λ k. by-le 32 k (λ h. past (2 * k) (omega arith) ∙ ap (λ r. r .c) (none k h)) (w .runs k)))
+          (fun-ext (λ k. by-le 32 k (λ h. past (2 * k + 1) (omega arith) ∙ ap (λ r. r .t) (none k h)) (w .spacings k)));
+      whole = w .whole;
+    }
   where
     past : (k : ℕ) → 64 ≤ k → getD asks k 0 ≡ 0
     past k h = List·getD-eq-default asks 0 (omega (arith, w .whole))

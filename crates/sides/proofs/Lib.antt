@@ -1,4 +1,6 @@
 -- The laws of the crate `sides`.
 pub mod Asks
+pub mod Pairs
 pub mod Small
 pub mod Walk
+pub mod Unique

@@ -2,8 +2,8 @@
 use Prim.Native.Nat.{ℕ, _+_, _*_}
 use mathlib.Core.Path.{_≡_}
 use mathlib.Core.List.{List}
-use lib.ListN.{getD}
-use Rattle.tables.specs.Table.{Table}
+use lib.ListN.{length, getD}
+use Rattle.tables.specs.Table.{Table, most-rows}
 use Rattle.tables.specs.Rows.{tableIn}
 use Rattle.tables.specs.declared.Row.{Row}
 
@@ -16,6 +16,7 @@ abbrev pub askingIn : List ℕ → ℕ → Table
 askingIn asks n =
     record { n = n; C = λ i. getD asks (2 * i) 0; D = λ i. getD asks (2 * i) 0; T = λ i. getD asks (2 * i + 1) 0 }
 
--- the numbers are those of the rows
-abbrev pub Asks : List Row → List ℕ → Type 0
-Asks rows asks = (n : ℕ) → askingIn asks n ≡ asking (tableIn rows n)
+-- the numbers are those of the 32 rows, two a row
+pub record Asks (rows : List Row) (asks : List ℕ) : Type 0 where
+  pub same : (n : ℕ) → askingIn asks n ≡ asking (tableIn rows n)
+  pub whole : length asks ≡ 2 * most-rows

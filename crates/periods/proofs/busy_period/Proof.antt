@@ -28,7 +28,7 @@ module _ (a : tie.After-asks-of Inv-loop μ-loop) where
   asked = askingIn (a .asks-of .result) (a .before .args .n)
 
   sound : Sound asked
-  sound = sound-for tb (a .asks-of .ensures (a .before .args .n)) (a .before .pre)
+  sound = sound-for tb (a .asks-of .ensures .same (a .before .args .n)) (a .before .pre)
 
 -- the next value of the iteration
 module _ (c : tie.After-busy-side Inv-loop μ-loop) where
@@ -62,13 +62,13 @@ returns : tie.Need-returns Inv-loop μ-loop
 returns c =
     let b = c .before in
     let l = b .before .before .loop in
-    let e = A b .asks-of .ensures (A b .before .args .n) in
+    let e = A b .asks-of .ensures .same (A b .before .args .n) in
     (busy-of (tb (A b)) e (climbing-stops (l .inv .0) (sym (c .if1 .taken) ∙ b .busy-side .ensures)), l .inv .1)
 
 returns-2 : tie.Need-returns-2 Inv-loop μ-loop
 returns-2 c w =
     let b = c .before .before in
-    let busy = busy-for (tb (A b)) (A b .asks-of .ensures (A b .before .args .n)) (w .busy) in
+    let busy = busy-for (tb (A b)) (A b .asks-of .ensures .same (A b .before .args .n)) (w .busy) in
     omega (arith, next b .under (w .period) (busy .low) (busy .holds), w .within, c .if2 .taken)
 
 pub busy-period-spec : {M : Type 1} → statement M

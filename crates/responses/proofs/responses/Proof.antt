@@ -37,7 +37,7 @@ module _ (a : tie.After-asks-of Inv-loop μ-loop) where
   ps = s .args .plan .now
 
   same : asked ≡ asking (tableIn (s .args .rows) (s .args .n))
-  same = a .asks-of .ensures (s .args .n)
+  same = a .asks-of .ensures .same (s .args .n)
 
   planned : Planned asked ps
   planned = planned-for (tableIn (s .args .rows) (s .args .n)) same ps (s .pre)

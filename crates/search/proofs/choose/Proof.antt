@@ -88,7 +88,7 @@ module _ (a : tie.After-asks-of Inv-loop μ-loop Inv-jobs μ-jobs Inv-lengths μ
   asked = askingIn (a .asks-of .result) (a .before .args .n)
 
   same : asked ≡ asking (tb (a .before))
-  same = a .asks-of .ensures (a .before .args .n)
+  same = a .asks-of .ensures .same (a .before .args .n)
 
   -- the rows but i, as a set
   others : (i r : ℕ) → marked r ≡ without (U (a .before)) i → Level (a .asks-of .result) (a .before .args .n) r
