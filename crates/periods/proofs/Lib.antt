@@ -1,2 +1,3 @@
 -- The laws of the crate `periods`.
 pub mod Lower
+pub mod Unique

@@ -4,3 +4,4 @@ pub mod Trial
 pub mod Kept
 pub mod Lengths
 pub mod Seen
+pub mod Unique
