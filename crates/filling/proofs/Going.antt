@@ -5,11 +5,11 @@ use mathlib.Core.Bool.{true, false}
 use mathlib.Core.Logic.{inl, inr}
 use mathlib.Core.List.{List}
 use native.Mathlib.Omega.{arith}
-use lib.ListN.{length, getD, set, length-set, replicate, length-replicate, getD-replicate, List·getD-eq-default}
+use lib.ListN.{length, getD, set, length-set, replicate, length-replicate}
 use lib.Seq.{getD-set-same, getD-set-other}
 use borrow.Author.Tests.{le-leb, lt-leb, lt-ltb, ltb-true}
 use Rattle.counting.specs.Sum.{without, count}
-use Rattle.counting.proofs.Cases.{by-bool, by-le, by-eq, not-both}
+use Rattle.counting.proofs.Cases.{by-bool, by-eq, not-both}
 use Rattle.counting.proofs.Sum.{without-elim, without-other}
 use Rattle.marks.specs.Marks.{marked, Whole, Less}
 use Rattle.marks.proofs.Marks.{none, count-less, count-nothing, whole-count}
@@ -18,6 +18,7 @@ use Rattle.tables.specs.Plan.{planOf}
 use Rattle.response.specs.Test.{before, load, busy-side, Response, blocking}
 use Rattle.response.proofs.Load.{Positive}
 use Rattle.response.proofs.Plans.{room, blocking-is, longest-cases}
+use Rattle.responses.proofs.Stored.{zeros}
 use Rattle.ranks.specs.Choice.{unplaced, Takes, TakesRank, NoneFits, Filled}
 use Rattle.ranks.proofs.Level.{Alike, takes-alike, none-alike}
 use Rattle.ranks.proofs.Ranked.{count-le}
@@ -44,6 +45,8 @@ module _ (tb : Table) where
     pub filled : Filled tb (planOf plan) (rank rest)
     pub blocks : b ≡ blocking tb (planOf plan) (rank rest)
     pub timed : (j : ℕ) → j < tb .n → marked rest j ≡ false → Timed tb (planOf plan) j (getD times j 0)
+    pub plan-past : (k : ℕ) → 2 * tb .n ≤ k → getD plan k 0 ≡ 0
+    pub times-past : (j : ℕ) → tb .n ≤ j → getD times j 0 ≡ 0
 
   module _ (sound : Sound tb) where
     pub going-first : (rest : ℕ) → Whole (tb .n) rest → Going (replicate 64 0) (replicate 32 0) rest 0
@@ -52,29 +55,25 @@ module _ (tb : Table) where
           long = length-replicate {A = ℕ} 64 0;
           whole = length-replicate {A = ℕ} 32 0;
           inside = λ j e. ltb-true j (tb .n) (sym (w j) ∙ e);
-          free = λ j _. zeros (2 * j);
+          free = λ j _. zeros 64 (2 * j);
           placed = λ j l e. not-both (marked rest j) e (w j ∙ lt-ltb j (tb .n) l);
           filled = subst (Filled tb (planOf (replicate 64 0))) (sym all) none;
           blocks =
               omega (
                 arith,
                 blocking-is tb (planOf (replicate 64 0)) (rank rest),
-                longest-cases tb (planOf (replicate 64 0)) (rank rest) (λ e. e) (λ j l lt _. absurd (omega (arith, zeros (2 * j)))),
+                longest-cases tb (planOf (replicate 64 0)) (rank rest) (λ e. e) (λ j l lt _. absurd (omega (arith, zeros 64 (2 * j)))),
               );
           timed = λ j l e. not-both (marked rest j) e (w j ∙ lt-ltb j (tb .n) l);
+          plan-past = λ k _. zeros 64 k;
+          times-past = λ j _. zeros 32 j;
         }
       where
         all : rank rest ≡ tb .n
         all = whole-count (tb .n) rest w (sound .few)
 
-        zeros : (k : ℕ) → _≡_ {A = ℕ} (getD (replicate 64 0) k 0) 0
-        zeros k =
-            by-le 64 k
-            (λ h. List·getD-eq-default (replicate 64 0) 0 {n = k} (omega (arith, length-replicate {A = ℕ} 64 0)))
-            (λ h. getD-replicate 64 k 0 0 h)
-
         none : Filled tb (planOf (replicate 64 0)) (tb .n)
-        none = filled-none tb (planOf (replicate 64 0)) (λ j l. zeros (2 * j))
+        none = filled-none tb (planOf (replicate 64 0)) (λ j l. zeros 64 (2 * j))
 
   module _ (pos : Positive tb) (plan times : List ℕ) (rest b : ℕ) (g : Going plan times rest b) where
     -- the level that is searched is the plan's own
@@ -101,30 +100,41 @@ module _ (tb : Table) where
               )) t h,
         )
 
-    pub going-stops : 1 ≤ rank rest → NoneFits tb (marked rest) b (marked rest) → Ended tb plan times (rank rest)
-    going-stops some none =
-        inr (
-          record {
-            plan = planOf plan;
-            rank = rank rest;
-            low = some;
-            high = omega (arith, g .filled .left, count-le (unplaced (planOf plan) (rank rest)) (tb .n));
-            filled = g .filled;
-            none = none-alike tb (marked rest) (unplaced (planOf plan) (rank rest)) b (blocking tb (planOf plan) (rank rest)) pos level-alike none;
-          },
-          refl,
-          refl,
-        )
+    pub going-stops : (r : ℕ) → r ≡ rank rest → 1 ≤ rank rest → NoneFits tb (marked rest) b (marked rest) →
+        Ended tb (record { stopped = r; plan = replicate 64 0; times = replicate 32 0 })
+    going-stops r e some none =
+        inr
+        (record {
+          stop =
+              record {
+                plan = planOf plan;
+                rank = rank rest;
+                low = some;
+                high = omega (arith, g .filled .left, count-le (unplaced (planOf plan) (rank rest)) (tb .n));
+                filled = g .filled;
+                none = none-alike tb (marked rest) (unplaced (planOf plan) (rank rest)) b (blocking tb (planOf plan) (rank rest)) pos level-alike none;
+              };
+          said = e;
+          plan = refl;
+          times = refl;
+        })
 
-    pub going-ends : rest ≡ 0 → Ended tb plan times 0
+    pub going-ends : rest ≡ 0 → Ended tb (record { stopped = 0; plan = plan; times = times })
     going-ends e =
-        let chosen = subst (Filled tb (planOf plan)) (ap rank e ∙ count-nothing 32) (g .filled) in (
-        inl (
-          refl,
-          chosen,
-          λ j l. timed-response tb (planOf plan) j (getD times j 0) chosen l (g .timed j l (ap (λ x. marked x j) e ∙ none j)),
-        )
-        )
+        let chosen = subst (Filled tb (planOf plan)) (ap rank e ∙ count-nothing 32) (g .filled) in
+        inl
+        (record {
+          said = refl;
+          chosen = chosen;
+          responses =
+              record {
+                each = λ j l. timed-response tb (planOf plan) j (getD times j 0) chosen l (g .timed j l (ap (λ x. marked x j) e ∙ none j));
+                past = g .times-past;
+                whole = g .whole;
+              };
+          past = g .plan-past;
+          whole = g .long;
+        })
 
     -- row y takes the rank with length q, and its response is R
     module _ (y q R left : ℕ) (row : y < 32) (t : Takes tb (marked rest) b (marked rest) y q)
@@ -218,6 +228,12 @@ module _ (tb : Table) where
                 (λ v.
                 subst (Timed tb p′ j) (sym (getD-set-other times y j R 0 v))
                 (timed-other j (getD times j 0) l v (gone j v e) (g .timed j l (gone j v e))));
+            plan-past =
+                λ k h.
+                getD-set-other (set plan (2 * y) (rank rest)) (2 * y + 1) k q 0 (λ e. omega (arith, t .row))
+                ∙ getD-set-other plan (2 * y) k (rank rest) 0 (λ e. omega (arith, t .row))
+                ∙ g .plan-past k h;
+            times-past = λ j h. getD-set-other times y j R 0 (λ e. omega (arith, t .row)) ∙ g .times-past j h;
           }
         where
           still : {X : Type 0} (j : ℕ) → marked left j ≡ true → (¬ (j ≡ y) → marked rest j ≡ true → X) → X

@@ -1,3 +1,4 @@
 -- The laws of the crate `filling`.
 pub mod Timed
 pub mod Going
+pub mod Unique

@@ -7,8 +7,8 @@ use search::Pick;
 use tables::PLAN_WIDTH;
 use tables::Row;
 
-// The plan, two numbers a row as `times` takes it; each placed row's response; and the rank at which no row had a passing length, 0 where
-// every rank was filled.
+// The plan, two numbers a row as `times` takes it; each row's response; and the rank at which no row had a passing length, 0 where every
+// rank was filled. Nothing of a plan that is not whole goes out.
 pub struct Filling {
     pub stopped: u32,
     pub plan: [u32; 64],
@@ -18,20 +18,21 @@ pub struct Filling {
 // The rank being filled is the number of rows that are not placed. The rows to try are these rows.
 pub fn fill(rows: [Row; 32], n: usize) -> Filling
     requires { ⌜ Sound (tableIn rows n) × BusyWithin (tableIn rows n) ⌝ }
-    ensures { λ r. ⌜ Ended (tableIn rows n) (r .plan) (r .times) (r .stopped) ⌝ }
+    ensures { λ r. ⌜ Ended (tableIn rows n) r ⌝ }
 {
     let mut plan = [0u32; 64];
     let mut times = [0u32; 32];
     let mut unplaced = marks::whole(n as u32);
     let mut blocking: u64 = 0;
-    let stopped = loop {
-        if unplaced == 0 {
-            break 0;
-        }
+    while unplaced != 0 {
         let rank = marks::size(unplaced);
         let pick = search::choose(rows, n, unplaced, unplaced, blocking);
         let Pick::Taken(row, len, response) = pick else {
-            break rank;
+            return Filling {
+                stopped: rank,
+                plan: [0u32; 64],
+                times: [0u32; 32],
+            };
         };
         let i = row as usize;
         let at = PLAN_WIDTH * i;
@@ -40,9 +41,9 @@ pub fn fill(rows: [Row; 32], n: usize) -> Filling
         times[i] = response;
         blocking = search::larger(blocking, (len - 1) as u64);
         unplaced = marks::less(unplaced, row);
-    };
+    }
     Filling {
-        stopped: stopped,
+        stopped: 0,
         plan: plan,
         times: times,
     }

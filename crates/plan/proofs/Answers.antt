@@ -86,7 +86,7 @@ module _ (tb : Table) (out : List ℕ) where
             )
 
             right : (i : ℕ) → i < tb .n → ResponseOf tb (plannedOf after) i (getD times i 0)
-            right i l = response-plans tb (planOf plan) (plannedOf after) i (getD times i 0) written-same l (rights i l)
+            right i l = response-plans tb (planOf plan) (plannedOf after) i (getD times i 0) written-same l (rights .each i l)
 
             given : PlanGiven tb out (3 * tb .n) after
             given =

@@ -6,3 +6,4 @@ pub mod Jobs
 pub mod Largest
 pub mod Same
 pub mod Row
+pub mod Unique

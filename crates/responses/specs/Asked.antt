@@ -6,7 +6,7 @@ use mathlib.Core.List.{List}
 use lib.Dec.{ltb}
 use lib.ListN.{length, getD}
 use Rattle.marks.specs.Marks.{marked}
-use Rattle.tables.specs.Table.{Table, Sound}
+use Rattle.tables.specs.Table.{Table, Sound, most-rows}
 use Rattle.tables.specs.Plan.{Plan, WellFormed, plan-width, planOf}
 use Rattle.response.specs.Test.{horizon, BusyWithin, Start, above, blocking, ResponseOf}
 
@@ -32,6 +32,8 @@ pub record Planned (tb : Table) (ps : List ℕ) : Type 0 where
   pub whole : length ps ≡ plan-width * tb .n
   pub plan : WellFormed tb (planOf ps)
 
--- each row's response stands in its place
-abbrev pub Responses : Table → Plan → List ℕ → Type 0
-Responses tb p rs = (i : ℕ) → i < tb .n → ResponseOf tb p i (getD rs i 0)
+-- each row's response stands in its place, and the places past the rows hold 0
+pub record Responses (tb : Table) (p : Plan) (rs : List ℕ) : Type 0 where
+  pub each : (i : ℕ) → i < tb .n → ResponseOf tb p i (getD rs i 0)
+  pub past : (i : ℕ) → tb .n ≤ i → getD rs i 0 ≡ 0
+  pub whole : length rs ≡ most-rows

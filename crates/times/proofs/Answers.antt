@@ -73,7 +73,7 @@ module _ (tb : Table) (ps : List ℕ) where
             inr (form, inr (roomy, inr (λ _ h. h .1 busy, record { number = refl; place = refl; given = given })))
           where
             here : (i : ℕ) → i < tb .n → ResponseOf tb (planOf ps) i (getD after i 0)
-            here i l = subst (ResponseOf tb (planOf ps) i) (sym (w .front i l)) (rights i l)
+            here i l = subst (ResponseOf tb (planOf ps) i) (sym (w .front i l)) (rights .each i l)
 
             given : TimesGiven tb (planOf ps) out (tb .n) after
             given =
@@ -99,7 +99,7 @@ module _ (tb : Table) (ps : List ℕ) where
           inr (form, inr (λ _ h. h .1 busy, record { number = refl; place = refl; given = record { said = inl (refl, pass); unlent = refl } }))
         where
           pass : Passes tb (planOf ps)
-          pass i l = record { R = getD rs i 0; response = rights i l; within = all i l }
+          pass i l = record { R = getD rs i 0; response = rights .each i l; within = all i l }
 
       pub verdict-no : (InTime tb rs → ⊥) → VerdictRest tb ps (resultOf (Given 0) [])
       verdict-no some =
@@ -108,4 +108,4 @@ module _ (tb : Table) (ps : List ℕ) where
           late : Passes tb (planOf ps) → InTime tb rs
           late pass i l =
               let p = pass i l in
-              omega (arith, p .within, response-unique tb _ _ i _ (getD rs i 0) (p .R) (rights i l) (p .response))
+              omega (arith, p .within, response-unique tb _ _ i _ (getD rs i 0) (p .R) (rights .each i l) (p .response))

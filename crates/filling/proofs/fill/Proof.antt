@@ -14,7 +14,6 @@ use Rattle.response.specs.Test.{Response}
 use Rattle.response.proofs.Load.{Positive, sound-positive}
 use Rattle.ranks.specs.Choice.{Takes}
 use Rattle.search.specs.Choose.{Picked}
-use Rattle.filling.specs.Ended.{Ended}
 use Rattle.filling.proofs.Going.{Going, rank, put, going-first, going-room, going-stops, going-ends, going-more}
 use Rattle.filling.proofs.fill.Statement.{statement}
 use Rattle.filling.proofs.fill.Tie as tie
@@ -81,7 +80,7 @@ choose-requires c κs =
     record {
       sound = s .pre .0;
       inside = a .loop .inv .inside;
-      some = pos-of-ne-zero (c .before .if1 .left);
+      some = pos-of-ne-zero (c .before .loop-test .taken);
       among = λ j e. e;
       busy = s .pre .1;
       room = going-room (tb a) (pos a) (a .loop .plan) (a .loop .times) (U a) (b a) (a .loop .inv);
@@ -92,6 +91,14 @@ enum-known-pick c = search needs
 
 enum-told : tie.Need-enum-told Inv-loop μ-loop
 enum-told c = search needs
+
+returns : tie.Need-returns Inv-loop μ-loop
+returns c =
+    let d = c .before .before in
+    let a = d .before .before .before in
+    going-stops (tb a) (pos a) (a .loop .plan) (a .loop .times) (U a) (b a) (a .loop .inv) (d .before .size .result) (d .before .size .ensures)
+    (count-something (U a) 32 (pos-of-ne-zero (d .before .before .loop-test .taken)) (λ j m. omega (arith, a .loop .inv .inside j m, a .before .before .pre .0 .few)))
+    (subst (Picked (tb a) (marked (U a)) (b a) (marked (U a))) (c .enum-told .given .1) (d .choose .ensures))
 
 cast-i : tie.Need-cast-i Inv-loop μ-loop
 cast-i c = search needs
@@ -144,19 +151,10 @@ loop-again c =
     subst (λ (r : ℕ). Going (tb a) (put (a .loop .plan) r (y d) (q d)) (set (a .loop .times) (y d) (R d)) (c .less .result) (c .before .larger .result)) (sym (S d .before .size .ensures))
     (subst (λ (x : ℕ). Going (tb a) (put (a .loop .plan) (rank (U a)) (y d) (q d)) (set (a .loop .times) (y d) (R d)) (c .less .result) x) (sym (c .before .larger .ensures)) next)
 
-returns : tie.Need-returns Inv-loop μ-loop
-returns c =
-    let a = c .before in
-    going-ends (tb a) (pos a) (a .loop .plan) (a .loop .times) (U a) (b a) (a .loop .inv) (c .if1 .taken)
-
 returns-2 : tie.Need-returns-2 Inv-loop μ-loop
 returns-2 c =
-    let d = c .before .before in
-    let a = d .before .before .before in
-    subst (Ended (tb a) (a .loop .plan) (a .loop .times)) (sym (d .before .size .ensures))
-    (going-stops (tb a) (pos a) (a .loop .plan) (a .loop .times) (U a) (b a) (a .loop .inv)
-    (count-something (U a) 32 (pos-of-ne-zero (d .before .before .if1 .left)) (λ j m. omega (arith, a .loop .inv .inside j m, a .before .before .pre .0 .few)))
-    (subst (Picked (tb a) (marked (U a)) (b a) (marked (U a))) (c .enum-told .given .1) (d .choose .ensures)))
+    let a = c .before in
+    going-ends (tb a) (pos a) (a .loop .plan) (a .loop .times) (U a) (b a) (a .loop .inv) (c .loop-test .left)
 
 pub fill-spec : {M : Type 1} → statement M
 fill-spec =
@@ -171,6 +169,7 @@ fill-spec =
     choose-requires
     enum-known-pick
     enum-told
+    returns
     cast-i
     mul-at
     mul-plan
@@ -186,5 +185,4 @@ fill-spec =
     less-requires
     loop-less
     loop-again
-    returns
     returns-2)

@@ -67,7 +67,7 @@ returns-3 c =
     let e = f .before in
     let s = S e in
     plan-stopped (tb s) (o s) (roomy e) (busy e)
-    (⊎-elim (λ x. absurd (c .if2 .taken (x .0))) (λ x. x .0) (f .fill .ensures))
+    (⊎-elim (λ x. absurd (c .if2 .taken (x .said))) (λ x. x .stop) (f .fill .ensures))
 
 write-requires : tie.Need-write-requires
 write-requires c κs = let e = c .before .before .before .before .before .before in (S e .pre .few, roomy e)
@@ -92,8 +92,8 @@ returns-4 c =
     ⊎-elim
     (λ x.
     subst (λ (l : List ℕ). PlanRest (tb s) (o s) (resultOf (Given (3 * s .args .n)) l)) (sym (w .write .ensures))
-    (plan-given (tb s) (o s) (roomy e) (busy e) (s .pre) (r .plan) (r .times) (x .1) (x .2)))
-    (λ x. absurd (omega (arith, x .0 .low, x .2, g .if2 .left)))
+    (plan-given (tb s) (o s) (roomy e) (busy e) (s .pre) (r .plan) (r .times) (x .chosen) (x .responses)))
+    (λ x. absurd (omega (arith, x .stop .low, x .said, g .if2 .left)))
     (f .fill .ensures)
 
 pub plan-of-spec : {M : Type 1} → statement M

@@ -1,4 +1,4 @@
--- `responses` meets its contract: each row passed has its response in its place. Assumes nothing.
+-- `responses` meets its contract: each row passed has its response in its place, and the places not reached hold 0. Assumes nothing.
 use Prim.Native.Nat.{ℕ, _≤_, _<_, _-_}
 use mathlib.Core.List.{List}
 use mathlib.Core.Path.{_≡_, refl, _∙_}
@@ -14,13 +14,14 @@ use Rattle.sides.specs.Asks.{asking, askingIn}
 use Rattle.responses.specs.Asked.{Planned}
 use Rattle.responses.proofs.Asking.{planned-for, plan-response-of}
 use Rattle.responses.proofs.Row.{Placed, set-inside, blocking-small, active-here, response-here, response-small}
-use Rattle.responses.proofs.Stored.{stored}
+use Rattle.responses.proofs.Stored.{stored, zeros, unreached}
 use Rattle.responses.proofs.responses.Statement.{statement}
 use Rattle.responses.proofs.responses.Tie as tie
 
 abbrev Inv-loop : tie.InvT-loop
 Inv-loop n plan asks times₀ i₀ times i =
     (i ≤ n) × (length times ≡ 32) × ((j : ℕ) → j < i → ResponseOf (askingIn asks n) (planOf plan) j (getD times j 0))
+    × ((j : ℕ) → i ≤ j → getD times j 0 ≡ 0)
 
 abbrev μ-loop : tie.MeasureT-loop
 μ-loop n plan asks times₀ i₀ times i = n - i
@@ -63,7 +64,7 @@ asks-of-requires : tie.Need-asks-of-requires Inv-loop μ-loop
 asks-of-requires c κs = search needs
 
 loop-holds : tie.Need-loop-holds Inv-loop μ-loop
-loop-holds c = (search needs, refl, below-none _)
+loop-holds c = (search needs, refl, below-none _, λ j _. zeros 32 j)
 
 mul-at : tie.Need-mul-at Inv-loop μ-loop
 mul-at c = search needs
@@ -134,12 +135,18 @@ loop-again c =
           (omega (arith, placed d .row, planned (A d) .sound .few, here .inv .1))
           (here .inv .2)
           (response-here (placed d) (c .response .ensures)),
+      unreached (here .times) (here .i) (c .response .result) (here .inv .3),
     )
 
 returns : tie.Need-returns Inv-loop μ-loop
-returns c j h =
+returns c =
     let a = c .before .before in
-    plan-response-of (tableIn (s a .args .rows) (s a .args .n)) (same a) (ps a) (c .before .loop .inv .2 j (omega arith))
+    let here = c .before .loop in
+    record {
+      each = λ j h. plan-response-of (tableIn (s a .args .rows) (s a .args .n)) (same a) (ps a) (here .inv .2 j (omega arith));
+      past = λ j h. here .inv .3 j (omega arith);
+      whole = here .inv .1;
+    }
 
 pub responses-spec : {M : Type 1} → statement M
 responses-spec =
