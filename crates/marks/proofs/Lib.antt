@@ -1,2 +1,3 @@
 -- The laws of the crate `marks`.
 pub mod Marks
+pub mod Unique

@@ -2,3 +2,4 @@
 pub mod Pieces
 pub mod Words
 pub mod Numbers
+pub mod Unique

@@ -4,3 +4,4 @@ pub mod Clear
 pub mod Checked
 pub mod Answered
 pub mod Result
+pub mod Unique

@@ -1,4 +1,4 @@
--- Laws of a text in a buffer: its length, and one text behind another. Assumes nothing.
+-- Laws of a text in a buffer: its length, one text behind another, and that what was put is settled. Assumes nothing.
 use Prim.Native.Nat.{ℕ, suc, _+_, _≤_, _<_}
 use mathlib.Core.Path.{_≡_, sym, ap, _∙_}
 use mathlib.Core.List.{List, [], _∷_, _++_, append-assoc}
@@ -67,3 +67,7 @@ put-none b at = record { behind = omega arith; whole = paste-zero b at [] }
 -- what fits with more behind it
 pub fits-front : (at : ℕ) (t u : List ℕ) {n : ℕ} → at + length (t ++ u) ≤ n → at + length t ≤ n
 fits-front at t u h = omega (arith, length-append t u)
+
+-- any two buffers and places are equal
+pub put-unique : {b t c d : List ℕ} {at m n : ℕ} → Put b at t c m → Put b at t d n → (c ≡ d) × (m ≡ n)
+put-unique p q = (p .whole ∙ sym (q .whole), p .behind ∙ sym (q .behind))

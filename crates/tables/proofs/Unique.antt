@@ -1,0 +1,63 @@
+-- Any two results that the promise of a function of this crate allows are equal. Assumes nothing.
+use Prim.Native.Nat.{ℕ, _*_}
+use mathlib.Core.Path.{_≡_, refl, sym, ap, _∙_}
+use mathlib.Core.List.{List}
+use native.Mathlib.Omega.{arith}
+use lib.ListN.{length, getD}
+use lib.Seq.{ext-getD}
+use Rattle.tables.specs.Table.{Table, row-width}
+use Rattle.tables.specs.Answer.{numberOf, placeOf, valueOf}
+use Rattle.tables.specs.Rows.{no, tableIn}
+use Rattle.tables.specs.Checked.{TableChecked, PlanChecked}
+use Rattle.tables.specs.declared.Answer.{Answer}
+use Rattle.tables.specs.declared.Said.{Said}
+use Rattle.tables.specs.declared.Row.{Row}
+use Rattle.tables.specs.declared.TableCheck.{TableCheck}
+use Rattle.tables.specs.declared.TableCheck.the-variants.{Sound, Shape, Range}
+use Rattle.tables.specs.declared.PlanCheck.{PlanCheck}
+use Rattle.tables.specs.declared.PlanCheck.the-variants.{WellFormed, AtFault}
+use Rattle.tables.proofs.Answered.{range-place, plan-form-place}
+
+-- what says an answer
+abbrev Tells : Answer → Said → Type 0
+Tells a r = (r .number ≡ numberOf a) × (r .place ≡ placeOf a) × (r .value ≡ valueOf a)
+
+pub said-unique : (a : Answer) (r s : Said) → Tells a r → Tells a s → r ≡ s
+said-unique a r s p q =
+    λ i.
+    record {
+      number = (p .0 ∙ sym (q .0)) i;
+      place = (p .1 ∙ sym (q .1)) i;
+      value = (p .2 ∙ sym (q .2)) i;
+    }
+
+-- the checks of a task table and of a plan
+pub table-checked-unique : (xs : List ℕ) (a b : TableCheck) → TableChecked xs a → TableChecked xs b → a ≡ b
+table-checked-unique xs (Sound n) (Sound m) p q = ap Sound (let e = p .2 in let f = q .2 in omega arith)
+table-checked-unique xs (Sound n) Shape p q = absurd (p .0 0 q)
+table-checked-unique xs (Sound n) (Range at) p q = absurd (p .1 at (q .1))
+table-checked-unique xs Shape (Sound m) p q = absurd (q .0 0 p)
+table-checked-unique xs Shape Shape p q = refl
+table-checked-unique xs Shape (Range at) p q = absurd (q .0 0 p)
+table-checked-unique xs (Range at) (Sound m) p q = absurd (q .1 at (p .1))
+table-checked-unique xs (Range at) Shape p q = absurd (p .0 0 q)
+table-checked-unique xs (Range a) (Range b) p q = ap Range (range-place xs a b (p .1) (q .1))
+
+pub plan-checked-unique : (tb : Table) (ps : List ℕ) (a b : PlanCheck) → PlanChecked tb ps a → PlanChecked tb ps b → a ≡ b
+plan-checked-unique tb ps WellFormed WellFormed p q = refl
+plan-checked-unique tb ps WellFormed (AtFault at) p q = absurd (p at q)
+plan-checked-unique tb ps (AtFault at) WellFormed p q = absurd (q at p)
+plan-checked-unique tb ps (AtFault a) (AtFault b) p q = ap AtFault (plan-form-place tb ps a b p q)
+
+-- the rows of a task table: two arrays of one length that hold one table
+pub rows-unique : (a b : List Row) (n : ℕ) → length a ≡ length b → tableIn a n ≡ tableIn b n → a ≡ b
+rows-unique a b n l e = ext-getD no a b l (λ k h. at k)
+  where
+    at : (k : ℕ) → getD a k no ≡ getD b k no
+    at k =
+        λ i.
+        record {
+          c = ap (λ (tb : Table). tb .C k) e i;
+          d = ap (λ (tb : Table). tb .D k) e i;
+          t = ap (λ (tb : Table). tb .T k) e i;
+        }
