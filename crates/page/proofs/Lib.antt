@@ -1,3 +1,4 @@
 -- The laws of the crate `page`.
 pub mod Printed
 pub mod Answers
+pub mod Most

@@ -34,6 +34,10 @@ rowLines planned (suc i) =
 unfoldable pub planText : List ℕ → List ℕ
 planText planned = planLine (length planned / planned-width) ++ rowLines planned (length planned / planned-width)
 
+-- the bytes of the longest text of 32-bit numbers: a first line of 8, ten row lines of 60 and twenty-two of 61
+abbrev pub longest-text : ℕ
+longest-text = 1950
+
 -- "For a refusal it prints one line, the word `refused`, the number and the place, single spaces between them."
 unfoldable pub refusedLine : ℕ → ℕ → List ℕ
 refusedLine number place = (word "refused " ++ decimal number) ++ (word " " ++ decimal place) ++ word "\n"
