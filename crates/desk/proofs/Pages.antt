@@ -1,13 +1,11 @@
 -- Laws of the page of a text: what is given has the shape and the length for the next step, and one text has one page. Assumes nothing.
-use Prim.Native.Nat.{ℕ, zero, suc, _+_, _*_, _≤_, _<_}
+use Prim.Native.Nat.{ℕ, _*_, _≤_, _<_}
 use mathlib.Core.Path.{_≡_, sym, ap, _∙_, subst}
 use mathlib.Core.Logic.{⊎-elim}
 use mathlib.Core.List.{List, [], _∷_}
 use native.Mathlib.Omega.{arith}
-use lib.ListN.{length, getD, take, length-append}
+use lib.ListN.{length, take}
 use lib.Seq.{length-take-le}
-use mir.Val.{Fits}
-use mir.Syntax.{w32}
 use Rattle.counting.proofs.Cases.{by-eq}
 use Rattle.tables.specs.Table.{row-width, most-rows, tableOf}
 use Rattle.tables.specs.Answer.{numberOf, placeOf, valueOf, resultOf}
@@ -18,16 +16,14 @@ use Rattle.tables.proofs.Answered.{AllClear}
 use Rattle.tables.proofs.Clear.{rows-of-shape}
 use Rattle.response.specs.Answers.{no-busy}
 use Rattle.ranks.specs.Answers.{planned-width, no-plan, PlanGiven, PlanAnswer}
-use Rattle.text.proofs.Decimal.{few}
 use Rattle.sheet.specs.Sheet.{ticksOf}
 use Rattle.sheet.specs.Answers.{SheetGiven, SheetAnswer}
 use Rattle.sheet.proofs.Fronts.{longest-sheet, length-ticks}
-use Rattle.page.specs.Printed.{rowLines, planText, refusedLine}
+use Rattle.page.specs.Printed.{planText, refusedLine}
 use Rattle.page.specs.Answers.{PrintFront}
-use Rattle.page.proofs.Printed.{lineOf, length-planLine, length-rowLine, length-text}
 use Rattle.plan.proofs.Unique.{plan-unique}
 use Rattle.sheet.proofs.Answers.{sheet-unique, cut-same}
-use Rattle.desk.specs.Reply.{blank, Refuses, PagePlanned, Page, longest-page}
+use Rattle.desk.specs.Reply.{blank, Refuses, PagePlanned, Page}
 
 -- no check of the list has the number 0
 abbrev Numbered : List Check → Type 0
@@ -82,31 +78,6 @@ sheet-within text r a z =
     let v = g .1 .given .many in
     let f = x .2 .formed .few in omega (arith, length-ticks (x .0) (x .1)))
     a
-
--- the text of 32-bit numbers is no longer than the longest page
-module _ (planned : List ℕ) (small : (i : ℕ) → Fits w32 (getD planned i 0)) where
-  digits-few : (i : ℕ) → getD planned i 0 < 10000000000
-  digits-few i = let f = small i .fits in omega arith
-
-  rows-short : (n : ℕ) → n ≤ most-rows → length (rowLines planned n) ≤ 69 * n
-  unfolding rowLines
-  rows-short zero h = omega arith
-  rows-short (suc n) h =
-      omega (
-        arith,
-        rows-short n (omega arith),
-        length-append (rowLines planned n) (lineOf planned n),
-        length-rowLine n (getD planned (planned-width * n) 0) (getD planned (planned-width * n + 1) 0) (getD planned (planned-width * n + 2) 0),
-        few 9 n (omega arith),
-        few 9 (getD planned (planned-width * n) 0) (digits-few (planned-width * n)),
-        few 9 (getD planned (planned-width * n + 1) 0) (digits-few (planned-width * n + 1)),
-        few 9 (getD planned (planned-width * n + 2) 0) (digits-few (planned-width * n + 2)),
-      )
-
-  pub text-short : Rows planned-width planned → length (planText planned) ≤ longest-page
-  text-short r =
-      let f = r .few in
-      omega (arith, length-text planned (r .n) (r .whole), length-planLine (r .n), few 9 (r .n) (omega arith), rows-short (r .n) (r .few))
 
 -- with room for it, print gives the text
 pub front-given : (planned : List ℕ) (len : ℕ) (front : List ℕ) → Rows planned-width planned → length (planText planned) ≤ len → PrintFront planned len front

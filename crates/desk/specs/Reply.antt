@@ -8,7 +8,7 @@ use Rattle.tables.specs.Answer.{numberOf, placeOf, valueOf, resultOf}
 use Rattle.tables.specs.declared.Answer.{Answer}
 use Rattle.ranks.specs.Answers.{planned-width, PlanAnswer}
 use Rattle.sheet.specs.Answers.{SheetAnswer}
-use Rattle.page.specs.Printed.{planText, refusedLine}
+use Rattle.page.specs.Printed.{planText, longest-text, refusedLine}
 
 -- an output with room for 32 rows of a width
 abbrev pub blank : ℕ → List ℕ
@@ -34,6 +34,6 @@ pub record Page (text page : List ℕ) : Type 0 where
   pub given : numberOf answer ≡ 0 → PagePlanned (take (valueOf answer) after) page
   pub refused : Refuses answer page
 
--- the bytes of a buffer that holds every page: the first line of 16, and 32 row lines of 69, at most
+-- the bytes of a buffer that holds every page: the longest text, for a refusal's line is shorter
 abbrev pub longest-page : ℕ
-longest-page = 2224
+longest-page = longest-text

@@ -11,7 +11,7 @@ ghost use Rattle.desk.specs.Input.{Within};
 // The line of a refusal.
 fn refuse(page: &mut [u8], number: u32, place: u32) -> &mut [u8]
     requires { ⌜ longest-page ≤ length (now page) ⌝ }
-    ensures { λ r. ⌜ now r ≡ refusedLine number place ⌝ }
+    ensures { λ r. ⌜ (now r ≡ refusedLine number place) × (r .ptr ≡ page .entry .ptr) ⌝ }
 {
     let end = page::put_refused(page, number, place);
     &mut page[..end]
@@ -20,7 +20,7 @@ fn refuse(page: &mut [u8], number: u32, place: u32) -> &mut [u8]
 // The text of a planned table, for which there is room.
 fn print_planned<'a>(planned: &[u32], page: &'a mut [u8]) -> &'a mut [u8]
     requires { ⌜ Rows planned-width (now planned) × (longest-page ≤ length (now page)) ⌝ }
-    ensures { λ r. ⌜ now r ≡ planText (now (planned .entry)) ⌝ }
+    ensures { λ r. ⌜ (now r ≡ planText (now (planned .entry))) × (r .ptr ≡ page .entry .ptr) ⌝ }
 {
     page::print(planned, page)
 }
@@ -28,7 +28,7 @@ fn print_planned<'a>(planned: &[u32], page: &'a mut [u8]) -> &'a mut [u8]
 // The page of a task table.
 fn reply_table<'a>(table: &[u32], page: &'a mut [u8]) -> &'a mut [u8]
     requires { ⌜ longest-page ≤ length (now page) ⌝ }
-    ensures { λ r. ⌜ PagePlanned (now (table .entry)) (now r) ⌝ }
+    ensures { λ r. ⌜ PagePlanned (now (table .entry)) (now r) × (r .ptr ≡ page .entry .ptr) ⌝ }
 {
     let mut planned = [0u32; 96];
     let said = tables::say(plan::plan(table, &mut planned));
@@ -42,7 +42,7 @@ fn reply_table<'a>(table: &[u32], page: &'a mut [u8]) -> &'a mut [u8]
 // The page of a text.
 pub fn reply<'a>(text: &[u8], page: &'a mut [u8]) -> &'a mut [u8]
     requires { ⌜ longest-page ≤ length (now page) ⌝ }
-    ensures { λ r. ⌜ Page (now (text .entry)) (now r) ⌝ }
+    ensures { λ r. ⌜ Page (now (text .entry)) (now r) × (r .ptr ≡ page .entry .ptr) ⌝ }
 {
     let mut table = [0u32; 96];
     let said = tables::say(sheet::sheet(text, &mut table));

@@ -1,5 +1,6 @@
 -- `print_planned` meets its contract: 32-bit numbers have a text for which there is room. Assumes nothing.
-use Rattle.desk.proofs.Pages.{text-short, front-given}
+use Rattle.page.proofs.Most.{text-most}
+use Rattle.desk.proofs.Pages.{front-given}
 use native.Mathlib.Omega.{arith}
 use lib.ListN.{length}
 use borrow.Author.Needs.{needs}
@@ -12,9 +13,11 @@ print-requires c κs = search needs
 returns : tie.Need-returns
 returns c =
     let s = c .before .before .before in
-    front-given (s .args .planned .now) (length (s .args .page .now)) (c .print .result .now) (s .pre .0)
-    (let l = text-short (s .args .planned .now) (c .before .before .shared-slice-known .given) (s .pre .0) in let p = s .pre .1 in omega arith)
-    (c .print .ensures .0)
+    let l = text-most (s .args .planned .now) (λ i. c .before .before .shared-slice-known .given i .fits) (s .pre .0) in
+    let p = s .pre .1 in (
+      front-given (s .args .planned .now) (length (s .args .page .now)) (c .print .result .now) (s .pre .0) (omega arith) (c .print .ensures .0),
+      c .print .ensures .1,
+    )
 
 pub print-planned-spec : {M : Type 1} → statement M
 print-planned-spec = tie.close (tie.spec print-requires returns)

@@ -4,7 +4,7 @@ use lib.ListN.{take, drop}
 use lib.Seq.{take-at}
 use Rattle.page.specs.Printed.{refusedLine}
 use Prim.Native.Nat.{ℕ, _+_}
-use mathlib.Core.Path.{_≡_, sym, ap, _∙_}
+use mathlib.Core.Path.{_≡_, refl, sym, ap, _∙_}
 use native.Mathlib.Omega.{arith}
 use lib.ListN.{length}
 use borrow.Author.Needs.{needs}
@@ -33,7 +33,7 @@ slice-aggregate-result c =
 
 returns : tie.Need-returns
 unfolding line
-returns c = front c
+returns c = (front c, refl)
 
 pub refuse-spec : {M : Type 1} → statement M
 refuse-spec = tie.close (tie.spec put-refused-requires slice-aggregate-result returns)

@@ -40,14 +40,16 @@ refuse-requires c κs = search needs
 
 returns : tie.Need-returns
 returns c =
-    let k = c .before .before .before in
-    record {
-      answer = k .before .before .sheet .result;
-      after = k .before .before .sheet .last .1 .0;
-      sheet = k .before .before .sheet .ensures;
-      given = λ z. absurd (c .before .if1 .taken (k .say .ensures .0 ∙ z));
-      refused = λ n. c .refuse .ensures ∙ rw (k .say .ensures .0, k .say .ensures .1);
-    }
+    let k = c .before .before .before in (
+      record {
+        answer = k .before .before .sheet .result;
+        after = k .before .before .sheet .last .1 .0;
+        sheet = k .before .before .sheet .ensures;
+        given = λ z. absurd (c .before .if1 .taken (k .say .ensures .0 ∙ z));
+        refused = λ n. c .refuse .ensures .0 ∙ rw (k .say .ensures .0, k .say .ensures .1);
+      },
+      c .refuse .ensures .1,
+    )
 
 array-share-prefix-table : tie.Need-array-share-prefix-table
 array-share-prefix-table c = within c
@@ -61,14 +63,16 @@ reply-table-requires c κs = c .before .before .before .before .before .before .
 
 returns-2 : tie.Need-returns-2
 returns-2 c =
-    let k = c .before .before .before .before in
-    record {
-      answer = k .before .before .sheet .result;
-      after = k .before .before .sheet .last .1 .0;
-      sheet = k .before .before .sheet .ensures;
-      given = λ z. rw (← k .say .ensures .2) (c .reply-table .ensures);
-      refused = λ n. absurd (n (sym (k .say .ensures .0) ∙ c .before .before .if1 .left));
-    }
+    let k = c .before .before .before .before in (
+      record {
+        answer = k .before .before .sheet .result;
+        after = k .before .before .sheet .last .1 .0;
+        sheet = k .before .before .sheet .ensures;
+        given = λ z. rw (← k .say .ensures .2) (c .reply-table .ensures .0);
+        refused = λ n. absurd (n (sym (k .say .ensures .0) ∙ c .before .before .if1 .left));
+      },
+      c .reply-table .ensures .1,
+    )
 
 pub reply-spec : {M : Type 1} → statement M
 reply-spec =

@@ -38,14 +38,16 @@ refuse-requires c κs = search needs
 
 returns : tie.Need-returns
 returns c =
-    let k = c .before .before .before in
-    record {
-      answer = k .before .before .plan .result;
-      after = k .before .before .plan .last .1 .0;
-      plan = k .before .before .plan .ensures;
-      given = λ z. absurd (c .before .if1 .taken (k .say .ensures .0 ∙ z));
-      refused = λ n. c .refuse .ensures ∙ rw (k .say .ensures .0, k .say .ensures .1);
-    }
+    let k = c .before .before .before in (
+      record {
+        answer = k .before .before .plan .result;
+        after = k .before .before .plan .last .1 .0;
+        plan = k .before .before .plan .ensures;
+        given = λ z. absurd (c .before .if1 .taken (k .say .ensures .0 ∙ z));
+        refused = λ n. c .refuse .ensures .0 ∙ rw (k .say .ensures .0, k .say .ensures .1);
+      },
+      c .refuse .ensures .1,
+    )
 
 array-share-prefix-planned : tie.Need-array-share-prefix-planned
 array-share-prefix-planned c = rows c .0
@@ -59,14 +61,16 @@ print-planned-requires c κs = (rows (c .before) .1, c .before .before .before .
 
 returns-2 : tie.Need-returns-2
 returns-2 c =
-    let k = c .before .before .before .before in
-    record {
-      answer = k .before .before .plan .result;
-      after = k .before .before .plan .last .1 .0;
-      plan = k .before .before .plan .ensures;
-      given = λ z. c .print-planned .ensures ∙ rw (k .say .ensures .2);
-      refused = λ n. absurd (n (sym (k .say .ensures .0) ∙ c .before .before .if1 .left));
-    }
+    let k = c .before .before .before .before in (
+      record {
+        answer = k .before .before .plan .result;
+        after = k .before .before .plan .last .1 .0;
+        plan = k .before .before .plan .ensures;
+        given = λ z. c .print-planned .ensures .0 ∙ rw (k .say .ensures .2);
+        refused = λ n. absurd (n (sym (k .say .ensures .0) ∙ c .before .before .if1 .left));
+      },
+      c .print-planned .ensures .1,
+    )
 
 pub reply-table-spec : {M : Type 1} → statement M
 reply-table-spec =
