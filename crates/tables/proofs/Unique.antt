@@ -1,15 +1,17 @@
 -- Any two results that the promise of a function of this crate allows are equal. Assumes nothing.
 use Prim.Native.Nat.{ℕ, _*_}
 use mathlib.Core.Path.{_≡_, refl, sym, ap, _∙_}
-use mathlib.Core.List.{List}
+use mathlib.Core.List.{List, [], _∷_}
 use native.Mathlib.Omega.{arith}
 use lib.ListN.{length, getD}
 use lib.Seq.{ext-getD}
 use Rattle.tables.specs.Table.{Table, row-width}
-use Rattle.tables.specs.Answer.{numberOf, placeOf, valueOf}
+use Rattle.tables.specs.Refusal.{Result}
+use Rattle.tables.specs.Answer.{numberOf, placeOf, valueOf, resultOf}
 use Rattle.tables.specs.Rows.{no, tableIn}
 use Rattle.tables.specs.Checked.{TableChecked, PlanChecked}
 use Rattle.tables.specs.declared.Answer.{Answer}
+use Rattle.tables.specs.declared.Answer.the-variants as answer
 use Rattle.tables.specs.declared.Said.{Said}
 use Rattle.tables.specs.declared.Row.{Row}
 use Rattle.tables.specs.declared.TableCheck.{TableCheck}
@@ -17,6 +19,40 @@ use Rattle.tables.specs.declared.TableCheck.the-variants.{Sound, Shape, 
 use Rattle.tables.specs.declared.PlanCheck.{PlanCheck}
 use Rattle.tables.specs.declared.PlanCheck.the-variants.{WellFormed, AtFault}
 use Rattle.tables.proofs.Answered.{range-place, plan-form-place}
+
+-- the case of the enum `Answer` by the paper's number
+abbrev caseOf : Result → Answer
+caseOf r =
+    getD
+    (answer.Given (r .value)
+    ∷ answer.Shape
+    ∷ answer.Room
+    ∷ answer.Range (r .place)
+    ∷ answer.NoBusy
+    ∷ answer.NoPlan
+    ∷ answer.Plan (r .place)
+    ∷ answer.JobsShape
+    ∷ answer.Job (r .place)
+    ∷ answer.Sheet (r .place)
+    ∷ [])
+    (r .number)
+    answer.Shape
+
+case-told : (a : Answer) (out : List ℕ) → caseOf (resultOf a out) ≡ a
+case-told (answer.Given v) out = refl
+case-told (answer.Sheet at) out = refl
+case-told answer.Shape out = refl
+case-told (answer.Range at) out = refl
+case-told (answer.Plan at) out = refl
+case-told answer.JobsShape out = refl
+case-told (answer.Job at) out = refl
+case-told answer.Room out = refl
+case-told answer.NoBusy out = refl
+case-told answer.NoPlan out = refl
+
+-- where an operation has one result, it has one answer and one later content of its output
+pub answer-unique : (a b : Answer) (l m : List ℕ) → resultOf a l ≡ resultOf b m → (a ≡ b) × (l ≡ m)
+answer-unique a b l m e = (sym (case-told a l) ∙ ap caseOf e ∙ case-told b m, ap (λ (r : Result). r .out) e)
 
 -- what says an answer
 abbrev Tells : Answer → Said → Type 0
