@@ -28,7 +28,7 @@ enum-told-2 c = search needs
 
 returns : tie.Need-returns
 returns c =
-    inr (clear (c .before), inl (record { number = refl; place = (refl, c .if1 .taken); value = refl; unwritten = refl }))
+    inr (clear (c .before), inl (record { number = refl; place = (refl, omega arith); value = refl; unwritten = refl }))
 
 put-front-requires : tie.Need-put-front-requires
 put-front-requires c κs = search needs
