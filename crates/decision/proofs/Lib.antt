@@ -1,2 +1,3 @@
 -- The laws of the crate `decision`.
 pub mod Scan
+pub mod Unique

@@ -28,13 +28,18 @@ urgency-held tb p i e h = rw h
 pub urgency-free : (tb : Table) (p : Plan) (i e : ℕ) → locked tb p i e ≡ false → urgency tb p i e ≡ p .rank i
 urgency-free tb p i e h = rw h
 
+-- row `best` stands before row i and waits, `least` is its urgency, and each earlier row that waits is less urgent
+pub record Best (tb : Table) (p : Plan) (heads done : List ℕ) (next i best least : ℕ) : Type 0 where
+  pub before : best < i
+  pub waits : getD heads best 0 < next
+  pub own : least ≡ urgency tb p best (getD done best 0)
+  pub earliest : (j : ℕ) → j < best → getD heads j 0 < next → least < urgency tb p j (getD done j 0)
+
 -- `best` is the foremost of the rows before row i and `least` its urgency; where none waits, `best` is n and `least` stands above every rank
 pub record Scanned (tb : Table) (p : Plan) (heads done : List ℕ) (next above i best least : ℕ) : Type 0 where
   pub high : i ≤ tb .n
   pub low : (j : ℕ) → j < i → getD heads j 0 < next → least ≤ urgency tb p j (getD done j 0)
-  pub found :
-      ((best ≡ tb .n) × (least ≡ above))
-      ⊎ ((best < i) × (getD heads best 0 < next) × (least ≡ urgency tb p best (getD done best 0)))
+  pub found : ((best ≡ tb .n) × (least ≡ above)) ⊎ Best tb p heads done next i best least
 
 pub scan-none : (tb : Table) (p : Plan) (heads done : List ℕ) (next above : ℕ) → Scanned tb p heads done next above 0 (tb .n) above
 scan-none tb p heads done next above = record { high = omega arith; low = λ j h. absurd (omega arith); found = inl (refl, refl) }
@@ -48,7 +53,11 @@ module _ {tb : Table} {p : Plan} {heads done : List ℕ} {next above i best leas
       record {
         high = omega arith;
         low = λ j g w. by-eq j i (λ e. rw e (h (rw e at w))) (λ e. s .low j (omega arith) w);
-        found = ⊎-elim inl (λ f. inr (omega (arith, f .0), f .1, f .2)) (s .found);
+        found =
+            ⊎-elim
+            inl
+            (λ f. inr (record { before = omega (arith, f .before); waits = f .waits; own = f .own; earliest = f .earliest }))
+            (s .found);
       }
 
   pub scan-take : getD heads i 0 < next → urgency tb p i (getD done i 0) < least →
@@ -57,7 +66,8 @@ module _ {tb : Table} {p : Plan} {heads done : List ℕ} {next above i best leas
       record {
         high = omega arith;
         low = λ j g v. by-eq j i (λ e. rw e (omega arith)) (λ e. omega (arith, s .low j (omega arith) v));
-        found = inr (omega arith, w, refl);
+        found =
+            inr (record { before = omega arith; waits = w; own = refl; earliest = λ j g v. omega (arith, s .low j g v) });
       }
 
 pub scan-end : {tb : Table} {p : Plan} {heads done : List ℕ} {next above i best least : ℕ} →
@@ -66,16 +76,19 @@ pub scan-end : {tb : Table} {p : Plan} {heads done : List ℕ} {next above i bes
 scan-end {tb} {p} {heads} {done} {next} {above} {i} {best} {least} s e ranks =
     ⊎-elim
     (λ (f : (best ≡ tb .n) × (least ≡ above)).
+    let none : (j : ℕ) → j < tb .n → getD heads j 0 < next → ⊥ =
+    λ j h w. omega (arith, s .low j (omega arith) w, f .1, ranks j h, urgency-rank tb p j (getD done j 0)) in
     record {
       high = omega (arith, f .0);
       waits = λ h. absurd (omega (arith, f .0));
-      first =
-          λ j h w. absurd (omega (arith, s .low j (omega arith) w, f .1, ranks j h, urgency-rank tb p j (getD done j 0)));
+      first = λ j h w. absurd (none j h w);
+      earliest = λ j h w. absurd (none j (omega (arith, f .0)) w);
     })
-    (λ (f : (best < i) × (getD heads best 0 < next) × (least ≡ urgency tb p best (getD done best 0))).
+    (λ (f : Best tb p heads done next i best least).
     record {
-      high = omega (arith, f .0);
-      waits = λ h. f .1;
-      first = λ j h w. (omega (arith, f .0), omega (arith, s .low j (omega arith) w, f .2));
+      high = omega (arith, f .before);
+      waits = λ h. f .waits;
+      first = λ j h w. (omega (arith, f .before), omega (arith, s .low j (omega arith) w, f .own));
+      earliest = λ j h w. omega (arith, f .own, f .earliest j h w);
     })
     (s .found)

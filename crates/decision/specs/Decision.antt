@@ -25,10 +25,11 @@ pub record Following (js : Jobs) (i from k : ℕ) : Type 0 where
   pub is : k < js .N → js .row k ≡ i
   pub none : (l : ℕ) → from ≤ l → l < k → js .row l ≡ i → ⊥
 
--- heads holds each row's first job
+-- heads holds each row's first job, and 0 past the rows
 pub record Heads (js : Jobs) (n : ℕ) (heads : List ℕ) : Type 0 where
   pub places : length heads ≡ most-rows
   pub first : (i : ℕ) → i < n → Following js i 0 (getD heads i 0)
+  pub past : (i : ℕ) → n ≤ i → getD heads i 0 ≡ 0
 
 -- the jobs from job `from` to before job `next` are released at tick t, and job `next`, where there is one, is not
 pub record Released (js : Jobs) (from t next : ℕ) : Type 0 where
@@ -41,17 +42,20 @@ pub record Released (js : Jobs) (from t next : ℕ) : Type 0 where
 abbrev pub urgency : Table → Plan → ℕ → ℕ → ℕ
 urgency tb p i e = given (not (locked tb p i e)) (p .rank i)
 
--- of the rows whose earliest unfinished job, at their place of heads, stands before job `next`, row i comes first; i is n where there is none
+-- of the rows whose earliest unfinished job, at their place of heads, stands before job `next`, row i comes first, among equals the
+-- earliest row; i is n where there is none
 pub record Foremost (tb : Table) (p : Plan) (heads done : List ℕ) (next i : ℕ) : Type 0 where
   pub high : i ≤ tb .n
   pub waits : i < tb .n → getD heads i 0 < next
   pub first : (j : ℕ) → j < tb .n → getD heads j 0 < next →
       (i < tb .n) × (urgency tb p i (getD done i 0) ≤ urgency tb p j (getD done j 0))
+  pub earliest : (j : ℕ) → j < i → getD heads j 0 < next →
+      urgency tb p i (getD done i 0) < urgency tb p j (getD done j 0)
 
 -- a decision runs d ticks: one at least, at most those that are left to the job, and unless it is held none past the release of job
--- `next`; it ends with the job or at that release
+-- `next`; it ends with the job or, unless it is held, at that release
 pub record Stretch (js : Jobs) (next t left : ℕ) (held : Bool) (d : ℕ) : Type 0 where
   pub some : 1 ≤ d
   pub within : d ≤ left
   pub calm : held ≡ false → next < js .N → t + d ≤ js .release next
-  pub ends : (d ≡ left) ⊎ ((next < js .N) × (t + d ≡ js .release next))
+  pub ends : (d ≡ left) ⊎ ((held ≡ false) × (next < js .N) × (t + d ≡ js .release next))

@@ -27,7 +27,7 @@ pub fn following(jobs: &[u32], i: u32, from: usize) -> usize
     k
 }
 
-// Each row's first job.
+// Each row's first job, and 0 past the rows.
 pub fn first_jobs(jobs: &[u32], n: usize) -> [usize; 32]
     requires { ⌜ n ≤ most-rows ⌝ }
     ensures { λ r. ⌜ Heads (jobsOf (now (jobs .entry))) n r ⌝ }

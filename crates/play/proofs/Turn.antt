@@ -186,7 +186,7 @@ module _ (tb : Table) (p : Plan) (js : Jobs) (sound : Sound tb) (wf : WellFormed
             gain =
                 ⊎-elim
                 (λ q. absurd (omega arith))
-                (λ q. inr (refl, q .0, omega (arith, q .1)))
+                (λ q. inr (refl, q .1, omega (arith, q .2)))
                 (stretch .ends);
           },
         )

@@ -58,7 +58,7 @@ returns-4 c =
       some = omega (arith, h);
       within = c .if3 .left;
       calm = λ e g. omega (arith, h);
-      ends = inr (c .before .before .if2 .left, omega (arith, h));
+      ends = inr (c .before .before .before .if1 .left, c .before .before .if2 .left, omega (arith, h));
     }
 
 pub stretch-spec : {M : Type 1} → statement M
