@@ -1,2 +1,3 @@
 -- The laws of the crate `joblist`.
 pub mod Walk
+pub mod Unique

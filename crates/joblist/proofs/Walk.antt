@@ -4,13 +4,14 @@ use mathlib.Core.Path.{_≡_, refl, sym, ap}
 use mathlib.Core.Logic.{_⊎_, inl, inr, ⊎-elim}
 use mathlib.Core.List.{List}
 use native.Mathlib.Omega.{arith}
-use lib.ListN.{length, getD, set, replicate, length-set, length-replicate, getD-replicate, List·getD-eq-default}
+use lib.ListN.{length, getD, set, replicate, length-set, length-replicate}
 use lib.Seq.{getD-set-same, getD-set-other}
 use Rattle.counting.proofs.Cases.{by-le, by-eq}
 use Rattle.tables.specs.Table.{Table, most-rows}
 use Rattle.tables.specs.Jobs.{Jobs, jobsOf}
 use Rattle.tables.specs.Refusal.{Clear}
 use Rattle.tables.specs.Checks.{BreaksAlone, BreaksAgainst, job-rules}
+use Rattle.tables.proofs.Rows.{holds-none}
 use Rattle.joblist.specs.Listed.{KeepsAlone}
 
 -- job k breaks a rule, "by itself or against an earlier job"
@@ -31,10 +32,7 @@ pub record Walked (tb : Table) (js : Jobs) (k last : ℕ) (earliest : List ℕ) 
 
 -- an array of zeros reads 0 everywhere
 pub zeros : (n i : ℕ) → getD (replicate {A = ℕ} n 0) i 0 ≡ 0
-zeros n i =
-    by-le n i
-    (λ h. List·getD-eq-default (replicate {A = ℕ} n 0) 0 {n = i} (omega (arith, length-replicate {A = ℕ} n 0)))
-    (λ h. getD-replicate n i 0 0 h)
+zeros n i = holds-none {A = ℕ} 0 (λ _. 0) n .past i (omega arith)
 
 pub walked-none : (tb : Table) (js : Jobs) → Walked tb js 0 0 (replicate {A = ℕ} most-rows 0)
 walked-none tb js =
