@@ -1,14 +1,14 @@
 -- The rank and length columns of a planned table, as a slice of their own. Assumes nothing.
-use Prim.Native.Nat.{ℕ, zero, suc, _+_, _*_, _/_, _%_, _≤_, _<_}
+use Prim.Native.Nat.{ℕ, zero, suc, _+_, _*_, _/_, _%_, _<_}
 use mathlib.Core.Path.{_≡_, refl, ap, sym, _∙_}
-use mathlib.Core.Bool.{Bool, true, false, cond}
+use mathlib.Core.Bool.{cond}
 use mathlib.Core.List.{List, [], _∷_}
 use native.Mathlib.Omega.{arith}
 use lib.Dec.{eqb}
 use lib.ListN.{length, getD}
 use borrow.Author.Tests.{eq-eqb, ne-eqb}
 use Rattle.tables.specs.Table.{Table}
-use Rattle.tables.specs.Plan.{Plan, planOf, plan-width}
+use Rattle.tables.specs.Plan.{Plan, plan-width}
 use Rattle.ranks.specs.Answers.{plannedOf}
 use Rattle.demands.specs.Demand2.{Columns}
 

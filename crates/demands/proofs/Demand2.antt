@@ -1,54 +1,33 @@
 -- Demand 2 is met: the theorems of the statements in specs/Demand2.antt. Assumes nothing.
-use Prim.Native.Nat.{ℕ, _*_, _≤_, _<_}
-use mathlib.Core.Path.{_≡_, refl, ap, sym, _∙_, subst}
-use mathlib.Core.Logic.{⊎-elim, _↔_}
-use mathlib.Core.List.{List, [], _∷_}
+use Prim.Native.Nat.{ℕ, _≤_, _<_}
+use mathlib.Core.Path.{_≡_, sym, _∙_}
+use mathlib.Core.Logic.{⊎-elim}
+use mathlib.Core.List.{List}
 use native.Mathlib.Omega.{arith}
 use lib.ListN.{length, getD}
-use Rattle.tables.specs.Table.{Table, Sound, tableOf}
+use Rattle.tables.specs.Table.{Table, tableOf}
 use Rattle.tables.specs.Plan.{Plan, WellFormed, planOf}
 use Rattle.tables.specs.Refusal.{Clear, Result}
-use Rattle.tables.specs.Checks.{shape, range, plan-form, room}
-use Rattle.tables.proofs.Clear.{sound-of-clear, clear-of-sound, plan-of-clear, clear-of-plan}
-use Rattle.response.specs.Test.{ResponseOf, RowPasses, Passes, above, blocking}
-use Rattle.response.specs.Answers.{no-busy, TimesAnswer, TimesGiven, VerdictAnswer, VerdictGiven}
+use Rattle.tables.specs.Checks.{shape, range}
+use Rattle.tables.proofs.Clear.{clear-of-sound, plan-of-clear, clear-of-plan}
+use Rattle.response.specs.Test.{horizon, BusyWithin, ResponseOf, Passes}
+use Rattle.response.specs.Answers.{Bounded, TimesAnswer, VerdictAnswer}
 use Rattle.response.proofs.Load.{Positive, sound-positive}
 use Rattle.response.proofs.Response.{response-unique}
-use Rattle.response.proofs.Plans.{plan-alike}
-use Rattle.ranks.specs.Choice.{Chosen, Stopped}
-use Rattle.ranks.specs.Answers.{PlanAnswer, PlanGiven, planned-width, plannedOf, responseIn, no-plan}
+use Rattle.response.proofs.Plans.{plan-alike, plan-bounded}
+use Rattle.ranks.specs.Choice.{Stopped}
+use Rattle.ranks.specs.Answers.{plannedOf, responseIn}
 use Rattle.ranks.proofs.Complete.{chosen-well-formed, chosen-passes, chosen-shortest, stopped-no-plan}
-use Rattle.demands.specs.Demand2.{Plannable, Accepted, RefusedExactlyIfNonePasses, Given, ShortestAtEachRank, Columns, Agrees, PlanTimesVerdictAgree}
-use Rattle.demands.proofs.Granted.{granted}
+use Rattle.demands.specs.Demand2.{TimesAreTheTests, PlannedAreTheTests, Accepted, RefusedExactlyIfNonePasses, Given, ShortestAtEachRank, Columns, PlanTimesVerdictAgree}
+use Rattle.demands.proofs.Gave.{PlanGave, plan-gave, times-gave, under-busy}
 use Rattle.demands.proofs.Columns.{columns-exist}
 
--- a given answer came past every check
-record Planned (xs out : List ℕ) (r : Result) : Type 0 where
-  pub shaped : Clear (shape xs)
-  pub ranged : Clear (range xs)
-  pub busy : Clear (no-busy (tableOf xs))
-  pub given : PlanGiven (tableOf xs) out (r .value) (r .out)
-
-planned : (xs out : List ℕ) (r : Result) → PlanAnswer xs out r → r .number ≡ 0 → Planned xs out r
-planned xs out r a zero =
-    let tb = tableOf xs in
-    let g =
-    granted
-    (shape xs ∷ range xs ∷ room (planned-width * tb .n) out ∷ no-busy tb ∷ no-plan tb ∷ [])
-    (PlanGiven tb out)
-    out
-    r
-    refl
-    zero
-    a in
-    record { shaped = g .0 .0; ranged = g .0 .1 .0; busy = g .0 .1 .1 .1 .0; given = g .1 .given }
-
 -- a given plan is well formed, passes, and has the shortest regions
-given-of : (xs out : List ℕ) (r : Result) → Planned xs out r → Given (tableOf xs) (plannedOf (r .out))
+given-of : (xs out : List ℕ) (r : Result) → PlanGave xs out r → Given (tableOf xs) (plannedOf (r .out))
 given-of xs out r g =
     let tb = tableOf xs in
     let p = plannedOf (r .out) in
-    let pos = sound-positive tb (sound-of-clear xs (g .shaped) (g .ranged)) in
+    let pos = sound-positive tb (g .table .sound) in
     let c = g .given .chosen in
     record {
       well-formed = chosen-well-formed tb pos p c;
@@ -56,8 +35,36 @@ given-of xs out r g =
       shortest = chosen-shortest tb pos p c;
     }
 
+-- "Response times equal those of document 01's test"
+pub times-are-the-tests : TimesAreTheTests
+times-are-the-tests xs ps out r a zero i l =
+    let g = times-gave xs ps out r a zero .given in
+    let R = getD (r .out) i 0 in
+    record {
+      is = g .responses i l;
+      only = λ S y. response-unique (tableOf xs) _ _ i _ S R y (g .responses i l);
+      low = g .bounded i l .low;
+      high = g .bounded i l .high;
+    }
+
+pub planned-are-the-tests : PlannedAreTheTests
+planned-are-the-tests xs out r a zero i l =
+    let tb = tableOf xs in
+    let p = plannedOf (r .out) in
+    let g = plan-gave xs out r a zero in
+    let wf = given-of xs out r g .well-formed in
+    let R = responseIn (r .out) i in
+    let x = g .given .responses i l in
+    let bounded : BusyWithin tb → Bounded tb p i R = λ busy. plan-bounded tb (g .table .sound) busy p wf i l R x in
+    record {
+      is = x;
+      only = λ S y. response-unique tb _ _ i _ S R y x;
+      low = under-busy xs (g .busy) (tb .C i) R (λ busy. bounded busy .low);
+      high = under-busy xs (g .busy) R horizon (λ busy. bounded busy .high);
+    }
+
 pub shortest-at-each-rank : ShortestAtEachRank
-shortest-at-each-rank xs out r a zero = given-of xs out r (planned xs out r a zero)
+shortest-at-each-rank xs out r a zero = given-of xs out r (plan-gave xs out r a zero)
 
 -- the columns of a well-formed planned table are a well-formed plan, and pass where it does
 module _ (xs ps written : List ℕ) (pos : Positive (tableOf xs)) (g : Given (tableOf xs) (plannedOf written))
@@ -124,14 +131,14 @@ refused-exactly-if-none-passes xs out r able a = (refused-none, none-refused)
     none-refused none =
         cases (λ five _. five)
         (λ zero.
-        let g = given-of xs out r (planned xs out r a zero) in
+        let g = given-of xs out r (plan-gave xs out r a zero) in
         let c = columns-exist (tableOf xs) (r .out) in
         absurd (none (c .0) (columns-accepted xs (c .0) (r .out) pos g (c .1)) (columns-pass xs (c .0) (r .out) pos g (c .1))))
 
 -- Together
-module _ (xs out : List ℕ) (r : Result) (done : Planned xs out r) (ps : List ℕ) (c : Columns (tableOf xs) (r .out) ps) where
+module _ (xs out : List ℕ) (r : Result) (done : PlanGave xs out r) (ps : List ℕ) (c : Columns (tableOf xs) (r .out) ps) where
   pos : Positive (tableOf xs)
-  pos = sound-positive (tableOf xs) (sound-of-clear xs (done .shaped) (done .ranged))
+  pos = sound-positive (tableOf xs) (done .table .sound)
 
   given : Given (tableOf xs) (plannedOf (r .out))
   given = given-of xs out r done
@@ -142,8 +149,8 @@ module _ (xs out : List ℕ) (r : Result) (done : Planned xs out r) (ps : List �
   times-agrees : (lent : List ℕ) (s : Result) → tableOf xs .n ≤ length lent → TimesAnswer xs ps lent s →
       (s .number ≡ 0) × ((i : ℕ) → i < tableOf xs .n → getD (s .out) i 0 ≡ responseIn (r .out) i)
   times-agrees lent s enough a =
-      ⊎-elim (λ x. absurd (done .shaped (s .place) (x .place))) (λ x.
-      ⊎-elim (λ y. absurd (done .ranged (s .place) (y .place))) (λ y.
+      ⊎-elim (λ x. absurd (done .table .shaped (s .place) (x .place))) (λ x.
+      ⊎-elim (λ y. absurd (done .table .ranged (s .place) (y .place))) (λ y.
       ⊎-elim (λ z. absurd (accepted (s .place) (z .place))) (λ z.
       ⊎-elim (λ v. absurd (omega (arith, v .place))) (λ v.
       ⊎-elim (λ w. absurd (done .busy (s .place) (w .place))) (λ w. (
@@ -156,8 +163,8 @@ module _ (xs out : List ℕ) (r : Result) (done : Planned xs out r) (ps : List �
 
   verdict-agrees : (s : Result) → VerdictAnswer xs ps s → (s .number ≡ 0) × (s .value ≡ 1)
   verdict-agrees s a =
-      ⊎-elim (λ x. absurd (done .shaped (s .place) (x .place))) (λ x.
-      ⊎-elim (λ y. absurd (done .ranged (s .place) (y .place))) (λ y.
+      ⊎-elim (λ x. absurd (done .table .shaped (s .place) (x .place))) (λ x.
+      ⊎-elim (λ y. absurd (done .table .ranged (s .place) (y .place))) (λ y.
       ⊎-elim (λ z. absurd (accepted (s .place) (z .place))) (λ z.
       ⊎-elim (λ v. absurd (done .busy (s .place) (v .place))) (λ v. (
         v .1 .number,
@@ -167,7 +174,7 @@ module _ (xs out : List ℕ) (r : Result) (done : Planned xs out r) (ps : List �
 
 pub plan-times-verdict-agree : PlanTimesVerdictAgree
 plan-times-verdict-agree xs out r a zero =
-    let done = planned xs out r a zero in (
+    let done = plan-gave xs out r a zero in (
       columns-exist (tableOf xs) (r .out),
       λ ps c.
           record {

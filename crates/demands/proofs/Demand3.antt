@@ -2,7 +2,9 @@
 use Prim.Native.Nat.{_+_}
 use mathlib.Core.Path.{_≡_, sym, subst}
 use native.Mathlib.Omega.{arith}
-use Rattle.response.specs.Test.{ResponseOf, above, blocking}
+use Rattle.tables.specs.Table.{Table, Sound}
+use Rattle.tables.specs.Plan.{Plan, WellFormed}
+use Rattle.response.specs.Test.{ResponseOf, Passes, above, blocking}
 use Rattle.response.proofs.Response.{response-unique}
 use Rattle.response.proofs.Plans.{plan-response}
 use Rattle.kernel.specs.Rule.{executed}
@@ -10,7 +12,7 @@ use Rattle.kernel.proofs.Executed.{executed-mono, executed-run}
 use Rattle.kernel.proofs.Finishing.{finish-least}
 use Rattle.bounds.proofs.Upper.{in-time}
 use Rattle.bounds.proofs.Reached.{reached}
-use Rattle.demands.specs.Demand3.{NoJobTakesLonger, SomeJobTakesExactly, NoSmallerNumber, NoLargerNumber, EveryResponseIsExact, TheTestDecides}
+use Rattle.demands.specs.Demand3.{NoJobTakesLonger, SomeJobTakesExactly, NoSmallerNumber, NoLargerNumber, EveryResponseIsExact, MeetsDeadlines, TheTestDecides}
 
 pub no-job-takes-longer : NoJobTakesLonger
 no-job-takes-longer tb sound p wf i R il x js lawful k l row =
@@ -50,20 +52,23 @@ every-response-is-exact tb sound busy p wf i il =
       reached = some-job-takes-exactly tb sound p wf i R il (r .1);
     }
 
+-- a plan that passes meets every deadline, whatever the busy period
+pub passing-meets : (tb : Table) → Sound tb → (p : Plan) → WellFormed tb p → Passes tb p → MeetsDeadlines tb p
+passing-meets tb sound p wf passes js lawful k l =
+    let i = js .row k in
+    let x = passes i (lawful .row k l) in
+    omega (
+      arith,
+      x .within,
+      in-time tb sound p wf js lawful k l (x .R) (x .response),
+      executed-run tb p js (js .release k + tb .D i) k,
+      executed-mono tb p js (js .release k + x .R) (js .release k + tb .D i) k (omega (arith, x .within)),
+    )
+
 pub the-test-decides : TheTestDecides
 the-test-decides tb sound busy p wf =
     record {
-      keeps =
-          λ passes js lawful k l.
-          let i = js .row k in
-          let x = passes i (lawful .row k l) in
-          omega (
-            arith,
-            x .within,
-            in-time tb sound p wf js lawful k l (x .R) (x .response),
-            executed-run tb p js (js .release k + tb .D i) k,
-            executed-mono tb p js (js .release k + x .R) (js .release k + tb .D i) k (omega (arith, x .within)),
-          );
+      keeps = passing-meets tb sound p wf;
       needs =
           λ meets i il.
           let r = plan-response tb sound busy p wf i il in

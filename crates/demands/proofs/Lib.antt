@@ -1,5 +1,6 @@
 -- The theorems of the demands, each under its statement's name.
 pub mod Granted
+pub mod Gave
 pub mod Columns
 pub mod Demand2
 pub mod Demand3

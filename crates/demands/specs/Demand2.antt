@@ -1,4 +1,4 @@
--- Demand 2, in the words of a caller of `plan`: each statement is about whatever the promise of `plan` allows it to answer.
+-- Demand 2, in the words of a caller of `times` and `plan`: each statement is about whatever the promise of the operation allows it to answer.
 use Prim.Native.Nat.{ℕ, _*_, _≤_, _<_}
 use mathlib.Core.Path.{_≡_}
 use mathlib.Core.Logic.{_↔_}
@@ -9,7 +9,7 @@ use Rattle.tables.specs.Table.{Table, Sound, tableOf, row-width}
 use Rattle.tables.specs.Plan.{Plan, WellFormed, planOf, plan-width, cap}
 use Rattle.tables.specs.Refusal.{Clear, Result}
 use Rattle.tables.specs.Checks.{plan-form}
-use Rattle.response.specs.Test.{BusyWithin, Response, blocking, Passes}
+use Rattle.response.specs.Test.{horizon, BusyWithin, Response, ResponseOf, blocking, Passes}
 use Rattle.response.specs.Answers.{TimesAnswer, VerdictAnswer}
 use Rattle.ranks.specs.Choice.{unplaced}
 use Rattle.ranks.specs.Answers.{PlanAnswer, planned-width, plannedOf, responseIn}
@@ -24,6 +24,25 @@ pub record Plannable (xs out : List ℕ) : Type 0 where
 -- ranks with lengths: a slice that `times` accepts as a plan of the table
 abbrev pub Accepted : List ℕ → List ℕ → Type 0
 Accepted xs ps = Clear (plan-form (tableOf xs) ps)
+
+-- R is the test's response of row i under the plan p, and no other number is; "every R" is at most H, and "R is never below C"
+pub record TestsResponse (tb : Table) (p : Plan) (i R : ℕ) : Type 0 where
+  pub is : ResponseOf tb p i R
+  pub only : (S : ℕ) → ResponseOf tb p i S → S ≡ R
+  pub low : tb .C i ≤ R
+  pub high : R ≤ horizon
+
+-- "Response times equal those of document 01's test": what times wrote for a row of the plan that it was given
+abbrev pub TimesAreTheTests : Type 0
+TimesAreTheTests =
+    (xs ps out : List ℕ) (r : Result) → TimesAnswer xs ps out r → r .number ≡ 0 →
+    (i : ℕ) → i < tableOf xs .n → TestsResponse (tableOf xs) (planOf ps) i (getD (r .out) i 0)
+
+-- and what plan wrote for a row of the plan that it wrote
+abbrev pub PlannedAreTheTests : Type 0
+PlannedAreTheTests =
+    (xs out : List ℕ) (r : Result) → PlanAnswer xs out r → r .number ≡ 0 →
+    (i : ℕ) → i < tableOf xs .n → TestsResponse (tableOf xs) (plannedOf (r .out)) i (responseIn (r .out) i)
 
 -- Complete: "a plan is refused exactly if no ranks with any lengths pass"
 abbrev pub RefusedExactlyIfNonePasses : Type 0

@@ -1,11 +1,11 @@
 -- The starred figures are right: a test of each figure that the checker computes, and the proof that what it passes is right. Assumes nothing.
-use Prim.Native.Nat.{ℕ, zero, suc, pred, _+_, _-_, _*_, _≤_, _<_, max}
-use mathlib.Core.Path.{_≡_, refl, ap, sym, _∙_, subst}
-use mathlib.Core.Bool.{Bool, true, false, _&&_, not}
-use mathlib.Core.Logic.{_⊎_, inl, inr}
+use Prim.Native.Nat.{ℕ, suc, pred, _+_, _-_, _*_, _<_}
+use mathlib.Core.Path.{_≡_, refl, sym, _∙_}
+use mathlib.Core.Bool.{Bool, true, false, _&&_}
+use mathlib.Core.Logic.{inl, inr}
 use mathlib.Core.List.{List, [], _∷_}
 use native.Mathlib.Omega.{arith}
-use lib.Dec.{eqb, leb, ltb}
+use lib.Dec.{eqb, ltb}
 use lib.ListN.{length, getD, drop}
 use lib.Seq.{drop-length}
 use borrow.Author.Tests.{eqb-true, ltb-true}
@@ -16,7 +16,6 @@ use Rattle.counting.proofs.Search.{first, all, all-at}
 use Rattle.tables.specs.Table.{Table, tableOf}
 use Rattle.tables.specs.Plan.{Plan, planOf}
 use Rattle.tables.specs.Jobs.{Jobs, jobsOf}
-use Rattle.tables.specs.Refusal.{Answered}
 use Rattle.response.specs.Test.{load, busy-side, BusyWithin, active-side, start-side, above, longest, blocking, ResponseOf}
 use Rattle.response.proofs.Load.{sound-positive}
 use Rattle.response.proofs.Plans.{plan-bounded}
@@ -312,13 +311,13 @@ unfolding every
 all-right [] e = tt
 all-right (f ∷ fs) e = (right f (and-left (test f) _ e), all-right fs (and-right (test f) _ e))
 
--- the checker computes the test of the whole table, and of the figure beside it
-all-figures : StarredFigures × Right further
-unfolding figures every test either plannable row-responds finish-test look passes-h period start value start-seen no-higher as-high highest-job responds implies known passing short trials-known comes-after takes-test none-test once-test filled-test stopped-test shortest-test table-test plan-test jobs-test first all up sum largest count load busy-side active-side start-side longest blocking one-of pick executed
-all-figures = (all-right figures refl, right further refl)
+-- the checker computes the test of the whole table, and of the figures beside it
+all-figures : StarredFigures × AllRight further
+unfolding figures further every test either plannable row-responds finish-test look passes-h period start value start-seen no-higher as-high highest-job responds implies known passing short trials-known comes-after takes-test none-test once-test filled-test stopped-test shortest-test table-test plan-test jobs-test first all up sum largest count load busy-side active-side start-side longest blocking one-of pick executed
+all-figures = (all-right figures refl, all-right further refl)
 
 pub starred-figures : StarredFigures
 starred-figures = all-figures .0
 
-pub further-figure : Right further
-further-figure = all-figures .1
+pub further-figures : AllRight further
+further-figures = all-figures .1

@@ -1,13 +1,13 @@
 -- Tests, computed by the checker, of busy periods, starts and responses of small tables, and what they show. Assumes nothing.
-use Prim.Native.Nat.{ℕ, zero, suc, _+_, _-_, _*_, _≤_, _<_}
-use mathlib.Core.Path.{_≡_, refl, ap, sym, _∙_, subst}
-use mathlib.Core.Bool.{Bool, true, false, _&&_, not}
+use Prim.Native.Nat.{ℕ, zero, suc, _+_, _-_, _*_, _<_}
+use mathlib.Core.Path.{_≡_, refl, sym, subst}
+use mathlib.Core.Bool.{Bool, true, _&&_}
 use native.Mathlib.Omega.{arith}
 use lib.Dec.{eqb, leb, ltb}
-use borrow.Author.Tests.{eqb-true, eqb-false, eq-eqb, leb-true, leb-false, ltb-true}
+use borrow.Author.Tests.{eqb-true, eqb-false, leb-true, ltb-true}
 use Rattle.counting.specs.Sum.{largest}
 use Rattle.counting.specs.Least.{Least}
-use Rattle.counting.proofs.Cases.{by-bool, by-eq, by-le, not-both, and-left, and-right}
+use Rattle.counting.proofs.Cases.{by-le, and-left, and-right}
 use Rattle.counting.proofs.Search.{first, first-ge, first-before, first-within, all, all-at}
 use Rattle.counting.proofs.Least.{Mono, LeastFixed, Climbing, climbing-lo, climbing-step, least-unique}
 use Rattle.tables.specs.Table.{Table}

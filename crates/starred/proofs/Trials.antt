@@ -1,15 +1,13 @@
 -- Tests, computed by the checker, of the choice on small tables: trials, shortest lengths, the row that takes a rank, ranks filled. Assumes nothing.
-use Prim.Native.Nat.{ℕ, zero, suc, _+_, _-_, _*_, _≤_, _<_}
-use mathlib.Core.Path.{_≡_, refl, ap, sym, _∙_, subst}
+use Prim.Native.Nat.{ℕ, suc, _-_, _≤_, _<_}
+use mathlib.Core.Path.{_≡_, refl, subst}
 use mathlib.Core.Bool.{Bool, true, false, _&&_, _||_, not}
 use native.Mathlib.Omega.{arith}
 use lib.Dec.{eqb, leb, ltb}
-use borrow.Author.Tests.{eqb-true, eqb-false, eq-eqb, ne-eqb, leb-true, leb-false, le-leb, lt-leb, ltb-true, ltb-false, lt-ltb, le-ltb}
+use borrow.Author.Tests.{eqb-true, eq-eqb, leb-true, le-leb, ltb-true, lt-ltb}
 use Rattle.counting.specs.Sum.{without, count}
-use Rattle.counting.specs.Least.{Least}
-use Rattle.counting.proofs.Cases.{by-bool, by-eq, by-le, not-both, and-left, and-right}
+use Rattle.counting.proofs.Cases.{by-le, not-both, and-left, and-right}
 use Rattle.counting.proofs.Search.{first, first-ge, first-before, first-found, first-within, all, all-at}
-use Rattle.counting.proofs.Least.{least-unique}
 use Rattle.tables.specs.Table.{Table}
 use Rattle.tables.specs.Plan.{Plan}
 use Rattle.response.specs.Test.{Response, blocking}

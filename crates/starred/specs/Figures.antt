@@ -60,6 +60,12 @@ second-table = 2 ∷ 5 ∷ 5 ∷ 4 ∷ 7 ∷ 7 ∷ []
 abbrev pub second-plan : List ℕ
 second-plan = 1 ∷ 1 ∷ 2 ∷ 2 ∷ []
 
+abbrev pub third-table : List ℕ
+third-table = 2 ∷ 5 ∷ 5 ∷ 4 ∷ 6 ∷ 7 ∷ []
+
+abbrev pub overloaded-table : List ℕ
+overloaded-table = 2 ∷ 3 ∷ 3 ∷ 2 ∷ 3 ∷ 3 ∷ []
+
 abbrev pub three-rows : List ℕ
 three-rows = 1 ∷ 4 ∷ 4 ∷ 1 ∷ 6 ∷ 6 ∷ 4 ∷ 12 ∷ 12 ∷ []
 
@@ -74,7 +80,7 @@ figures =
     ∷ plays second-table second-plan (1 ∷ 0 ∷ 4 ∷ 0 ∷ 3 ∷ 2 ∷ []) (4 ∷ 6 ∷ [])
     ∷ plays second-table second-plan (1 ∷ 0 ∷ 4 ∷ 0 ∷ 2 ∷ 2 ∷ []) (6 ∷ 4 ∷ [])
     ∷ plays second-table second-plan (1 ∷ 0 ∷ 3 ∷ 0 ∷ 3 ∷ 2 ∷ []) (3 ∷ 5 ∷ [])
-    ∷ plans (2 ∷ 5 ∷ 5 ∷ 4 ∷ 6 ∷ 7 ∷ []) (1 ∷ 1 ∷ 4 ∷ 2 ∷ 3 ∷ 6 ∷ [])
+    ∷ plans third-table (1 ∷ 1 ∷ 4 ∷ 2 ∷ 3 ∷ 6 ∷ [])
     ∷ refuses (2 ∷ 5 ∷ 5 ∷ 4 ∷ 5 ∷ 7 ∷ []) 5 0
     -- "The tie at rank 2 goes to row 0."
     ∷ plans three-rows (2 ∷ 1 ∷ 2 ∷ 1 ∷ 1 ∷ 1 ∷ 3 ∷ 1 ∷ 8 ∷ [])
@@ -84,16 +90,27 @@ figures =
     ∷ timed three-rows (1 ∷ 1 ∷ 2 ∷ 1 ∷ 3 ∷ 3 ∷ []) (3 ∷ 4 ∷ 6 ∷ [])
     ∷ timed three-rows (1 ∷ 1 ∷ 2 ∷ 1 ∷ 3 ∷ 4 ∷ []) (4 ∷ 6 ∷ 6 ∷ [])
     ∷ timed three-rows (1 ∷ 1 ∷ 2 ∷ 1 ∷ 3 ∷ 1 ∷ []) (1 ∷ 2 ∷ 8 ∷ [])
-    ∷ refuses (2 ∷ 3 ∷ 3 ∷ 2 ∷ 3 ∷ 3 ∷ []) 4 0
+    ∷ refuses overloaded-table 4 0
     ∷ refuses (5 ∷ 4 ∷ 9 ∷ []) 5 0
     ∷ []
 
--- beside them, for the wrong versions that no starred table tells from the right one: below the lowest rank the first row of the table stands highest
+-- beside them, for the wrong versions that no starred table tells from the right one. Below the lowest rank the first row of the table stands
+-- highest; utilisations that are each rounded up exceed 1 where their sum is 1; rounded down they do not where their sum does.
 abbrev pub urgent-first : List ℕ
 urgent-first = 1 ∷ 1 ∷ 10 ∷ 1 ∷ 5 ∷ 10 ∷ 1 ∷ 12 ∷ 12 ∷ []
 
-abbrev pub further : Figure
-further = plans urgent-first (1 ∷ 1 ∷ 1 ∷ 3 ∷ 1 ∷ 3 ∷ 2 ∷ 1 ∷ 2 ∷ [])
+abbrev pub three-thirds : List ℕ
+three-thirds = 1 ∷ 3 ∷ 3 ∷ 1 ∷ 3 ∷ 3 ∷ 1 ∷ 3 ∷ 3 ∷ []
+
+abbrev pub one-tick-over : List ℕ
+one-tick-over = 500000 ∷ 1000000 ∷ 1000000 ∷ 500001 ∷ 1000000 ∷ 1000000 ∷ []
+
+unfoldable pub further : List Figure
+further =
+    plans urgent-first (1 ∷ 1 ∷ 1 ∷ 3 ∷ 1 ∷ 3 ∷ 2 ∷ 1 ∷ 2 ∷ [])
+    ∷ plans three-thirds (3 ∷ 1 ∷ 3 ∷ 2 ∷ 1 ∷ 2 ∷ 1 ∷ 1 ∷ 1 ∷ [])
+    ∷ refuses one-tick-over 4 0
+    ∷ []
 
 -- the one statement
 abbrev pub StarredFigures : Type 0

@@ -1,52 +1,102 @@
--- Wrong versions of plan: document 01, "These versions have to break it", and "Shortcuts that give a wrong manual". None meets the promise.
-use Prim.Native.Nat.{ℕ, _≤_, _<_}
+-- Wrong versions of plan: document 01, "These versions have to break it", and "Shortcuts that give a wrong manual". Each breaks the promise
+-- on a table that is named here.
+use Prim.Native.Nat.{ℕ, _*_, _/_, _%_, _≤_, _<_}
 use mathlib.Core.Path.{_≡_}
-use mathlib.Core.List.{List}
-use Rattle.tables.specs.Table.{tableOf}
+use mathlib.Core.Logic.{_↔_}
+use mathlib.Core.List.{List, [], _∷_}
+use lib.ListN.{length, getD}
+use Rattle.counting.specs.Up.{up}
+use Rattle.counting.specs.Sum.{sum}
+use Rattle.tables.specs.Table.{Sound, tableOf, row-width}
 use Rattle.tables.specs.Refusal.{Result}
-use Rattle.ranks.specs.Answers.{PlanAnswer, plannedOf}
+use Rattle.ranks.specs.Answers.{PlanAnswer, planned-width, plannedOf}
+use Rattle.starred.specs.Figures.{second-table, third-table, three-rows, overloaded-table, urgent-first, three-thirds, one-tick-over}
 
 -- a version of plan: a task table and a lent output to what it answers and leaves
 abbrev pub Version : Type 0
 Version = List ℕ → List ℕ → Result
 
--- it meets the promise of plan
-abbrev pub Meets : Version → Type 0
-Meets f = (xs out : List ℕ) → PlanAnswer xs out (f xs out)
+-- "slices of 32-bit numbers": what a program can be lent
+abbrev pub Words : List ℕ → Type 0
+Words xs = (i : ℕ) → i < length xs → getD xs i 0 < 4294967296
+
+-- what holds of every task table and output of 32-bit numbers
+abbrev pub Always : (List ℕ → List ℕ → Type 0) → Type 0
+Always Holds = (xs out : List ℕ) → Words xs → Words out → Holds xs out
 
 -- "one that refuses everything"
 abbrev pub RefusesEverything : Version → Type 0
-RefusesEverything f = (xs out : List ℕ) → 1 ≤ f xs out .number
+RefusesEverything f = Always (λ xs out. 1 ≤ f xs out .number)
 
--- "one that gives a fixed plan": whenever it plans, the same numbers stand in the output
+-- "one that gives a fixed plan": tables of as many rows that it plans get the same ranks and lengths, whatever the responses in front
+-- and whatever stands behind them
 abbrev pub GivesAFixedPlan : Version → Type 0
-GivesAFixedPlan f = (ys : List ℕ) × ((xs out : List ℕ) → f xs out .number ≡ 0 → f xs out .out ≡ ys)
+GivesAFixedPlan f =
+    Always (λ xs out. Always (λ ys lent.
+    f xs out .number ≡ 0 → f ys lent .number ≡ 0 → tableOf xs .n ≡ tableOf ys .n →
+    (i : ℕ) → i < tableOf xs .n →
+    let p = plannedOf (f xs out .out) in
+    let q = plannedOf (f ys lent .out) in
+    (p .rank i ≡ q .rank i) × (p .len i ≡ q .len i)))
 
 -- "or leaves the output untouched"
 abbrev pub LeavesTheOutput : Version → Type 0
-LeavesTheOutput f = (xs out : List ℕ) → f xs out .out ≡ out
+LeavesTheOutput f = Always (λ xs out. f xs out .out ≡ out)
+
+-- against "Nothing lent is written on a refusal": one that writes into any output that has a place
+abbrev pub WritesOnARefusal : Version → Type 0
+WritesOnARefusal f = Always (λ xs out. 1 ≤ f xs out .number → 1 ≤ length out → f xs out .out ≡ out → ⊥)
 
 -- "one that searches at rank n only and fills other ranks in table order": in that order from the highest rank on, or from the lowest
-abbrev pub SearchesTheLowestOnly : Version → ((ℕ → ℕ) → ℕ → ℕ → Type 0) → Type 0
-SearchesTheLowestOnly f Ordered =
-    (xs out : List ℕ) → f xs out .number ≡ 0 →
+abbrev pub SearchesTheLowestOnly : ((ℕ → ℕ) → ℕ → ℕ → Type 0) → Version → Type 0
+SearchesTheLowestOnly Ordered f =
+    Always (λ xs out.
+    f xs out .number ≡ 0 →
     let n = tableOf xs .n in
     let rank = plannedOf (f xs out .out) .rank in
-    (i j : ℕ) → i < j → j < n → rank i < n → rank j < n → Ordered rank i j
+    (i j : ℕ) → i < j → j < n → rank i < n → rank j < n → Ordered rank i j)
 
 -- "Taking priorities by deadline first and lengths afterwards"
 abbrev pub RanksByDeadline : Version → Type 0
 RanksByDeadline f =
-    (xs out : List ℕ) → f xs out .number ≡ 0 →
+    Always (λ xs out.
+    f xs out .number ≡ 0 →
     let tb = tableOf xs in
     let rank = plannedOf (f xs out .out) .rank in
-    (i j : ℕ) → i < tb .n → j < tb .n → tb .D i < tb .D j → rank i < rank j
+    (i j : ℕ) → i < tb .n → j < tb .n → tb .D i < tb .D j → rank i < rank j)
 
--- none of them meets the promise
+-- "Refusing 4 from a sum of rounded utilisations": each C/T in parts of a whole (100 for percent), rounded up or down, and 4, where the
+-- earlier checks are clear, exactly if the sum is more than the whole
+abbrev pub RefusesByUtilisation : (ℕ → ℕ → ℕ) → ℕ → Version → Type 0
+RefusesByUtilisation rounded whole f =
+    Always (λ xs out.
+    let tb = tableOf xs in
+    length xs ≡ row-width * tb .n → Sound tb → planned-width * tb .n ≤ length out →
+    (f xs out .number ≡ 4) ↔ (whole < sum (λ i. rounded (whole * tb .C i) (tb .T i)) (tb .n)))
+
+-- outputs with room for two rows, and for three
+abbrev pub six : List ℕ
+six = 0 ∷ 0 ∷ 0 ∷ 0 ∷ 0 ∷ 0 ∷ []
+
+abbrev pub nine : List ℕ
+nine = 0 ∷ 0 ∷ 0 ∷ six
+
+-- what the version answers for this table and leaves in this output is not what the promise allows
+abbrev pub BreaksOn : List ℕ → List ℕ → Version → Type 0
+BreaksOn xs out f = PlanAnswer xs out (f xs out) → ⊥
+
+-- of two tables, each with its output, it breaks the promise on one
+abbrev pub BreaksOnOneOf : List ℕ → List ℕ → List ℕ → List ℕ → Version → Type 0
+BreaksOnOneOf xs out ys lent f = PlanAnswer xs out (f xs out) → BreaksOn ys lent f
+
+-- every one of them breaks the promise, on this table
 pub record AllRefuted : Type 0 where
-  pub refuses : (f : Version) → Meets f → RefusesEverything f → ⊥
-  pub fixed : (f : Version) → Meets f → GivesAFixedPlan f → ⊥
-  pub untouched : (f : Version) → Meets f → LeavesTheOutput f → ⊥
-  pub lowest-only : (f : Version) → Meets f → SearchesTheLowestOnly f (λ rank i j. rank i < rank j) → ⊥
-  pub lowest-only-down : (f : Version) → Meets f → SearchesTheLowestOnly f (λ rank i j. rank j < rank i) → ⊥
-  pub by-deadline : (f : Version) → Meets f → RanksByDeadline f → ⊥
+  pub refuses : (f : Version) → RefusesEverything f → BreaksOn second-table six f
+  pub fixed : (f : Version) → GivesAFixedPlan f → BreaksOnOneOf second-table six third-table six f
+  pub untouched : (f : Version) → LeavesTheOutput f → BreaksOn second-table six f
+  pub written : (f : Version) → WritesOnARefusal f → BreaksOn overloaded-table six f
+  pub lowest-only : (f : Version) → SearchesTheLowestOnly (λ rank i j. rank i < rank j) f → BreaksOn three-rows nine f
+  pub lowest-only-down : (f : Version) → SearchesTheLowestOnly (λ rank i j. rank j < rank i) f → BreaksOn urgent-first nine f
+  pub by-deadline : (f : Version) → RanksByDeadline f → BreaksOn three-rows nine f
+  pub rounded-up : (f : Version) (whole : ℕ) → (whole % 3 ≡ 0 → ⊥) → RefusesByUtilisation up whole f → BreaksOn three-thirds nine f
+  pub rounded-down : (f : Version) (whole : ℕ) → whole < 1000000 → RefusesByUtilisation _/_ whole f → BreaksOn one-tick-over six f

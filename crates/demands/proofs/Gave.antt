@@ -1,0 +1,84 @@
+-- What is known of an operation that answered with the number 0: its input came past every check, and it gave what it promises. Assumes nothing.
+use Prim.Native.Nat.{ℕ, _*_, _≤_}
+use mathlib.Core.Path.{_≡_, refl}
+use mathlib.Core.List.{List, [], _∷_}
+use native.Mathlib.Omega.{arith}
+use Rattle.counting.proofs.Cases.{by-le}
+use Rattle.tables.specs.Table.{Sound, tableOf}
+use Rattle.tables.specs.Plan.{WellFormed, planOf}
+use Rattle.tables.specs.Jobs.{Lawful, jobsOf}
+use Rattle.tables.specs.Refusal.{Clear, Result}
+use Rattle.tables.specs.Checks.{shape, range, plan-form, jobs-shape, job-rules, room}
+use Rattle.tables.proofs.Clear.{sound-of-clear, plan-of-clear, jobs-of-clear}
+use Rattle.response.specs.Test.{BusyWithin}
+use Rattle.response.specs.Answers.{no-busy, TimesAnswer, TimesGiven, VerdictAnswer, VerdictGiven}
+use Rattle.ranks.specs.Answers.{planned-width, no-plan, PlanAnswer, PlanGiven}
+use Rattle.kernel.specs.Answers.{PlayAnswer, PlayGiven}
+use Rattle.demands.proofs.Granted.{granted}
+
+-- past the checks of the table
+pub record TableTaken (xs : List ℕ) : Type 0 where
+  pub shaped : Clear (shape xs)
+  pub ranged : Clear (range xs)
+  pub sound : Sound (tableOf xs)
+
+taken : (xs : List ℕ) → Clear (shape xs) → Clear (range xs) → TableTaken xs
+taken xs s r = record { shaped = s; ranged = r; sound = sound-of-clear xs s r }
+
+pub record PlanGave (xs out : List ℕ) (r : Result) : Type 0 where
+  pub table : TableTaken xs
+  pub busy : Clear (no-busy (tableOf xs))
+  pub given : PlanGiven (tableOf xs) out (r .value) (r .out)
+
+pub plan-gave : (xs out : List ℕ) (r : Result) → PlanAnswer xs out r → r .number ≡ 0 → PlanGave xs out r
+plan-gave xs out r a zero =
+    let tb = tableOf xs in
+    let g = granted (shape xs ∷ range xs ∷ room (planned-width * tb .n) out ∷ no-busy tb ∷ no-plan tb ∷ []) (PlanGiven tb out) out r refl zero a in
+    record { table = taken xs (g .0 .0) (g .0 .1 .0); busy = g .0 .1 .1 .1 .0; given = g .1 .given }
+
+pub record TimesGave (xs ps out : List ℕ) (r : Result) : Type 0 where
+  pub table : TableTaken xs
+  pub plan : WellFormed (tableOf xs) (planOf ps)
+  pub given : TimesGiven (tableOf xs) (planOf ps) out (r .value) (r .out)
+
+pub times-gave : (xs ps out : List ℕ) (r : Result) → TimesAnswer xs ps out r → r .number ≡ 0 → TimesGave xs ps out r
+times-gave xs ps out r a zero =
+    let tb = tableOf xs in
+    let g = granted (shape xs ∷ range xs ∷ plan-form tb ps ∷ room (tb .n) out ∷ no-busy tb ∷ []) (TimesGiven tb (planOf ps) out) out r refl zero a in
+    record { table = taken xs (g .0 .0) (g .0 .1 .0); plan = plan-of-clear tb ps (g .0 .1 .1 .0) .1; given = g .1 .given }
+
+pub record VerdictGave (xs ps : List ℕ) (r : Result) : Type 0 where
+  pub table : TableTaken xs
+  pub plan : WellFormed (tableOf xs) (planOf ps)
+  pub busy : Clear (no-busy (tableOf xs))
+  pub given : VerdictGiven (tableOf xs) (planOf ps) (r .value) (r .out)
+
+pub verdict-gave : (xs ps : List ℕ) (r : Result) → VerdictAnswer xs ps r → r .number ≡ 0 → VerdictGave xs ps r
+verdict-gave xs ps r a zero =
+    let tb = tableOf xs in
+    let g = granted (shape xs ∷ range xs ∷ plan-form tb ps ∷ no-busy tb ∷ []) (VerdictGiven tb (planOf ps)) [] r refl zero a in
+    record { table = taken xs (g .0 .0) (g .0 .1 .0); plan = plan-of-clear tb ps (g .0 .1 .1 .0) .1; busy = g .0 .1 .1 .1 .0; given = g .1 .given }
+
+pub record PlayGave (xs ps js out : List ℕ) (r : Result) : Type 0 where
+  pub table : TableTaken xs
+  pub plan : WellFormed (tableOf xs) (planOf ps)
+  pub jobs : Lawful (tableOf xs) (jobsOf js)
+  pub given : PlayGiven (tableOf xs) (planOf ps) (jobsOf js) out (r .value) (r .out)
+
+pub play-gave : (xs ps js out : List ℕ) (r : Result) → PlayAnswer xs ps js out r → r .number ≡ 0 → PlayGave xs ps js out r
+play-gave xs ps js out r a zero =
+    let tb = tableOf xs in
+    let J = jobsOf js in
+    let g =
+    granted (shape xs ∷ range xs ∷ plan-form tb ps ∷ jobs-shape js ∷ job-rules tb js ∷ room (J .N) out ∷ []) (PlayGiven tb (planOf ps) J out) out r refl zero a in
+    let c = g .0 in
+    record {
+      table = taken xs (c .0) (c .1 .0);
+      plan = plan-of-clear tb ps (c .1 .1 .0) .1;
+      jobs = jobs-of-clear tb js (c .1 .1 .1 .0) (c .1 .1 .1 .1 .0) .lawful;
+      given = g .1 .given;
+    }
+
+-- an order that follows from a busy period within H holds where refusal 4 is not given
+pub under-busy : (xs : List ℕ) → Clear (no-busy (tableOf xs)) → (a b : ℕ) → (BusyWithin (tableOf xs) → a ≤ b) → a ≤ b
+under-busy xs clear a b f = by-le a b (λ h. h) (λ h. absurd (clear 0 (refl, λ w. omega (arith, f w))))
