@@ -9,12 +9,12 @@ use Rattle.tables.specs.Plan.{WellFormed, planOf}
 use Rattle.tables.specs.Jobs.{Lawful, jobsOf}
 use Rattle.tables.specs.Refusal.{Clear, Result}
 use Rattle.tables.specs.Checks.{shape, range, plan-form, jobs-shape, job-rules, room}
+use Rattle.tables.proofs.Answered.{granted}
 use Rattle.tables.proofs.Clear.{sound-of-clear, plan-of-clear, jobs-of-clear}
 use Rattle.response.specs.Test.{BusyWithin}
 use Rattle.response.specs.Answers.{no-busy, TimesAnswer, TimesGiven, VerdictAnswer, VerdictGiven}
 use Rattle.ranks.specs.Answers.{planned-width, no-plan, PlanAnswer, PlanGiven}
 use Rattle.kernel.specs.Answers.{PlayAnswer, PlayGiven}
-use Rattle.demands.proofs.Granted.{granted}
 
 -- past the checks of the table
 pub record TableTaken (xs : List ℕ) : Type 0 where

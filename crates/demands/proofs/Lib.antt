@@ -1,5 +1,4 @@
 -- The theorems of the demands, each under its statement's name.
-pub mod Granted
 pub mod Gave
 pub mod Columns
 pub mod Demand2

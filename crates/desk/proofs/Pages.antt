@@ -1,6 +1,6 @@
 -- Laws of the page of a text: what is given has the shape and the length for the next step, and one text has one page. Assumes nothing.
 use Prim.Native.Nat.{ℕ, _*_, _≤_, _<_}
-use mathlib.Core.Path.{_≡_, sym, ap, _∙_, subst}
+use mathlib.Core.Path.{_≡_, refl, sym, ap, _∙_, subst}
 use mathlib.Core.Logic.{⊎-elim}
 use mathlib.Core.List.{List, [], _∷_}
 use native.Mathlib.Omega.{arith}
@@ -12,7 +12,7 @@ use Rattle.tables.specs.Answer.{numberOf, placeOf, valueOf, resultOf}
 use Rattle.tables.specs.declared.Answer.{Answer}
 use Rattle.tables.specs.Refusal.{Check, Result, Granted, Answered}
 use Rattle.tables.specs.Checks.{Rows, shape, range, room}
-use Rattle.tables.proofs.Answered.{AllClear}
+use Rattle.tables.proofs.Answered.{granted}
 use Rattle.tables.proofs.Clear.{rows-of-shape}
 use Rattle.response.specs.Answers.{no-busy}
 use Rattle.ranks.specs.Answers.{planned-width, no-plan, PlanGiven, PlanAnswer}
@@ -24,21 +24,6 @@ use Rattle.page.specs.Answers.{PrintFront}
 use Rattle.plan.proofs.Unique.{plan-unique}
 use Rattle.sheet.proofs.Answers.{sheet-unique, cut-same}
 use Rattle.desk.specs.Reply.{blank, Refuses, PagePlanned, Page}
-
--- no check of the list has the number 0
-abbrev Numbered : List Check → Type 0
-Numbered [] = Unit {0}
-Numbered (c ∷ cs) = (c .number ≡ 0 → ⊥) × Numbered cs
-
--- an answer with the number 0 is given, and no check hits
-granted : (cs : List Check) (Given : ℕ → List ℕ → Type 0) (out : List ℕ) (r : Result) → Numbered cs → Answered cs Given out r → r .number ≡ 0
-    → AllClear cs × Granted Given r
-granted [] Given out r n a z = (tt, a)
-granted (c ∷ cs) Given out r n a z =
-    ⊎-elim
-    (λ x. absurd (n .0 (sym (x .number) ∙ z)))
-    (λ x. let g = granted cs Given out r (n .1) (x .1) z in ((x .0, g .0), g .1))
-    a
 
 not-zero : {n : ℕ} → 1 ≤ n → n ≡ 0 → ⊥
 not-zero h e = omega arith
@@ -53,9 +38,9 @@ plan-rows table r a z =
     (PlanGiven tb (blank planned-width))
     (blank planned-width)
     r
-    (not-zero (omega arith), (not-zero (omega arith), (not-zero (omega arith), (not-zero (omega arith), (not-zero (omega arith), tt)))))
-    a
-    z in
+    refl
+    z
+    a in
     let s = rows-of-shape table (g .0 .0) in
     let w = s .whole in
     let l = s .some in
@@ -74,7 +59,7 @@ sheet-within text r a z =
     let ticks = ticksOf (x .0) (x .1) in
     let g =
     granted (range ticks ∷ room (length ticks) (blank row-width) ∷ []) (SheetGiven ticks (blank row-width)) (blank row-width) r
-    (not-zero (omega arith), (not-zero (omega arith), tt)) (x .3) z in
+    refl z (x .3) in
     let v = g .1 .given .many in
     let f = x .2 .formed .few in omega (arith, length-ticks (x .0) (x .1)))
     a

@@ -1,14 +1,18 @@
--- Any two results that an operation's promise allows are equal, where each check has one place and the given answer is settled. Assumes nothing.
+-- What an operation's answer tells: any two results that a promise allows are equal, where each check has one place and the given answer is settled; and the number 0 is that of a given answer. Assumes nothing.
 use Prim.Native.Nat.{ℕ, _+_, _-_, _≤_}
 use mathlib.Core.Path.{_≡_, sym, ap, _∙_}
+use mathlib.Core.Bool.{Bool, true, _&&_}
 use mathlib.Core.Logic.{⊎-elim}
 use mathlib.Core.List.{List, [], _∷_}
 use native.Mathlib.Omega.{arith}
+use lib.Dec.{leb}
 use lib.ListN.{getD, drop}
 use lib.Seq.{getD-drop}
+use borrow.Author.Tests.{leb-true}
+use Rattle.counting.proofs.Cases.{and-left, and-right}
 use Rattle.counting.proofs.Least.{least-unique}
 use Rattle.tables.specs.Table.{Table}
-use Rattle.tables.specs.Refusal.{Check, Clear, Result, Refused, Answered}
+use Rattle.tables.specs.Refusal.{Check, Clear, Result, Refused, Granted, Answered}
 use Rattle.tables.specs.Checks.{shape, range, plan-form, jobs-shape, job-rules, room}
 
 -- the check hits at one place at most
@@ -56,6 +60,22 @@ answered-unique (c ∷ cs) Given out r s one given a b =
     (λ y. absurd (x .0 (s .place) (y .place)))
     (λ y. answered-unique cs Given out r s (one .1) (λ clear. given (x .0, clear)) (x .1) (y .1))
     b)
+    a
+
+-- no check of the list has the number 0
+abbrev pub numbered : List Check → Bool
+numbered [] = true
+numbered (c ∷ cs) = leb 1 (c .number) && numbered cs
+
+-- so an answer with the number 0 is given, and no check hits
+pub granted : (cs : List Check) (Given : ℕ → List ℕ → Type 0) (out : List ℕ) (r : Result) → numbered cs ≡ true → r .number ≡ 0 →
+    Answered cs Given out r → AllClear cs × Granted Given r
+granted [] Given out r some zero a = (tt, a)
+granted (c ∷ cs) Given out r some zero a =
+    let first = leb 1 (c .number) in
+    ⊎-elim
+    (λ x. absurd (omega (arith, x .number, leb-true 1 (c .number) (and-left first (numbered cs) some))))
+    (λ x. let g = granted cs Given out r (and-right first (numbered cs) some) zero (x .1) in ((x .0, g .0), g .1))
     a
 
 -- two lists whose remainders from n on are the same agree from n on
