@@ -1,7 +1,9 @@
--- The least number of a kind: document 01's "the least t of at least .. with ..", "the first such ..", "the least one from 1 to C for which ..".
+-- The least number of a kind, from a given number on: what document 01 means by "the least t", "the least one" and
+-- "the first such number".
 use Prim.Native.Nat.{ℕ, _≤_}
 
--- t is the least number of at least lo with E t: no upper limit is set to what it is compared with
+-- t is at least lo and has E, and no smaller number of at least lo has it; numbers of any size are compared, and
+-- where none has E there is no least
 pub record Least (E : ℕ → Type 0) (lo t : ℕ) : Type 0 where
   pub low : lo ≤ t
   pub holds : E t

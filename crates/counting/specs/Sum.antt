@@ -1,4 +1,5 @@
--- Sums, largest values and counts over the numbers below n, guarded by a test: document 01's "the sum over ..", "the largest ..", "the number of ..".
+-- Sums, largest values and counts over the numbers below n, guarded by a test: what document 01 means by "the sum
+-- over", "the largest" and "the number of".
 use Prim.Native.Nat.{ℕ, zero, suc, _+_, max}
 use mathlib.Core.Bool.{Bool, true, false, _&&_, not}
 use lib.Dec.{eqb}
@@ -12,7 +13,7 @@ given false x = 0
 abbrev pub without : (ℕ → Bool) → ℕ → ℕ → Bool
 without U i j = U j && not (eqb j i)
 
--- f 0 + .. + f (n - 1)
+-- f 0 + .. + f (n - 1); 0 where n is 0
 unfoldable pub sum : (ℕ → ℕ) → ℕ → ℕ
 sum f zero = 0
 sum f (suc n) = sum f n + f n

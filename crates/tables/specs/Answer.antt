@@ -1,11 +1,12 @@
--- The paper's number, place and value of each case of the enum `Answer`, and the result that it stands for.
+-- What each case of the enum `Answer` says by document 01, "Numbers of refusal": its number, its place, the value
+-- that is given, and the result that it stands for.
 use Prim.Native.Nat.{ℕ}
 use mathlib.Core.List.{List}
 use Rattle.tables.specs.Refusal.{Result}
 use Rattle.tables.specs.declared.Answer.{Answer}
 use Rattle.tables.specs.declared.Answer.the-variants.{Given, Sheet, Shape, Range, Plan, JobsShape, Job, Room, NoBusy, NoPlan}
 
--- document 01, "Numbers of refusal", the column "No."; 0 where the answer is given
+-- "No.": the number of the refusal; 0 where the answer is given
 abbrev pub numberOf : Answer → ℕ
 numberOf (Given v) = 0
 numberOf (Sheet at) = 9
@@ -18,7 +19,7 @@ numberOf Room = 2
 numberOf NoBusy = 4
 numberOf NoPlan = 5
 
--- the column "Place"
+-- "Place": the one that the case carries, and 0 for the refusals that carry none; 0 where the answer is given
 abbrev pub placeOf : Answer → ℕ
 placeOf (Given v) = 0
 placeOf (Sheet at) = at
@@ -44,6 +45,6 @@ valueOf Room = 0
 valueOf NoBusy = 0
 valueOf NoPlan = 0
 
--- what a call that answers a and leaves `out` in the lent output answers and leaves
+-- the result of a call that answers a and leaves `out` in the lent output
 abbrev pub resultOf : Answer → List ℕ → Result
 resultOf a out = record { number = numberOf a; place = placeOf a; value = valueOf a; out = out }

@@ -29,7 +29,7 @@ TableChecked xs (Sound n) = Clear (shape xs) × Clear (range xs) × (length xs �
 TableChecked xs Shape = shape xs .hits 0
 TableChecked xs (Range at) = Clear (shape xs) × range xs .hits at
 
--- the check 6
+-- the check 6: clear, or the place at which it hits
 abbrev pub PlanChecked : Table → List ℕ → PlanCheck → Type 0
 PlanChecked tb ps WellFormed = Clear (plan-form tb ps)
 PlanChecked tb ps (AtFault at) = plan-form tb ps .hits at

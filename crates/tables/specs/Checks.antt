@@ -1,4 +1,5 @@
--- The checks of task tables, plans, job lists and outputs: document 01, "Numbers of refusal", lines 2 to 7.
+-- The checks of task tables, plans, job lists and outputs: document 01, "Numbers of refusal", lines 2 to 7, with
+-- rows, jobs and the numbers of a slice counted from 0.
 use Prim.Native.Nat.{ℕ, _+_, _*_, _≤_, _<_}
 use mathlib.Core.Path.{_≡_}
 use mathlib.Core.Logic.{_⊎_}
@@ -11,14 +12,15 @@ use Rattle.tables.specs.Jobs.{Jobs, job-width, most-jobs, last-release, 
 use Rattle.tables.specs.Planned.{planned-width}
 use Rattle.tables.specs.Refusal.{Check}
 
--- a slice of numbers that is 1 to 32 rows of a width
+-- a slice that is a whole number of rows of a width, from 1 to 32 of them
 pub record Rows (width : ℕ) (xs : List ℕ) : Type 0 where
   pub n : ℕ
   pub whole : length xs ≡ width * n
   pub some : 1 ≤ n
   pub few : n ≤ most-rows
 
--- 1: "numbers not a multiple of 3, no row, or over 32 rows", place 0; of a task table, and of a planned table
+-- 1, "not a multiple of 3": the slice is not 1 to 32 whole rows of its width, place 0; of a task table, and of a
+-- planned table
 abbrev pub rows-shape : ℕ → List ℕ → Check
 rows-shape width xs = record { number = 1; hits = λ place. (place ≡ 0) × (Rows width xs → ⊥) }
 
@@ -28,27 +30,28 @@ shape xs = rows-shape row-width xs
 abbrev pub planned-shape : List ℕ → Check
 planned-shape ys = rows-shape planned-width ys
 
--- 3: "a number outside 1 to 1,000,000", place "index of the first such number"
+-- 3, "a number outside": some number is 0 or above 1,000,000, and the place is the least index of one
 abbrev pub range : List ℕ → Check
 range xs = record { number = 3; hits = Least (λ i. (i < length xs) × (Within (getD xs i 0) → ⊥)) 0 }
 
--- "rank of an earlier row"
+-- "rank of an earlier row": some row before row i in the table has the same rank
 abbrev pub RankTaken : Plan → ℕ → Type 0
 RankTaken p i = (j : ℕ) × (j < i) × (p .rank j ≡ p .rank i)
 
--- "rank outside 1 to n, rank of an earlier row"
+-- "rank outside 1 to n": the rank of row i is 0 or above n, or else an earlier row has it
 abbrev pub RankAtFault : Table → Plan → ℕ → Type 0
 RankAtFault tb p i = (((1 ≤ p .rank i) × (p .rank i ≤ tb .n)) → ⊥) ⊎ RankTaken p i
 
--- "length outside 1 to C"
+-- "length outside 1 to C": the length of row i is 0 or above the most that it may be
 abbrev pub LengthAtFault : Table → Plan → ℕ → Type 0
 LengthAtFault tb p i = ((1 ≤ p .len i) × (p .len i ≤ cap tb i)) → ⊥
 
--- a row of the plan at fault
+-- "row at fault": row i of the plan, by its rank or by its length
 abbrev pub RowAtFault : Table → Plan → ℕ → Type 0
 RowAtFault tb p i = RankAtFault tb p i ⊎ LengthAtFault tb p i
 
--- 6: "plan not well formed", place "first row at fault ..; 32 if the slice is not 2n numbers"
+-- 6, "plan not well formed": place 32 where the slice is not two numbers for each row of the table, and otherwise
+-- the first row at fault, where there is one
 abbrev pub plan-form : Table → List ℕ → Check
 plan-form tb ps =
     record {
@@ -59,7 +62,7 @@ plan-form tb ps =
           ⊎ ((length ps ≡ plan-width * tb .n) × Least (λ i. (i < tb .n) × RowAtFault tb (planOf ps) i) 0 place);
     }
 
--- 7: "job list not a multiple of 3, or over 4,096 jobs", place 0
+-- 7, "over 4,096 jobs": the slice is not three numbers a job for any number of jobs from 0 to 4,096, place 0
 abbrev pub jobs-shape : List ℕ → Check
 jobs-shape js =
     record {
@@ -67,7 +70,8 @@ jobs-shape js =
       hits = λ place. (place ≡ 0) × (((N : ℕ) × (length js ≡ job-width * N) × (N ≤ most-jobs)) → ⊥);
     }
 
--- a job breaks a rule by itself: "Row is below n, release 0 to 1,000,000, run 1 to C"
+-- "by itself": job k names no row of the table, or is released after tick 1,000,000, or its run is 0 or above the C
+-- of its row
 abbrev pub BreaksAlone : Table → Jobs → ℕ → Type 0
 BreaksAlone tb js k =
     ((js .row k < tb .n)
@@ -76,13 +80,15 @@ BreaksAlone tb js k =
     × (js .run k ≤ tb .C (js .row k)))
     → ⊥
 
--- job k breaks a rule against an earlier job l: "Releases never fall along the list. Two jobs of one row are at least T apart."
+-- "against an earlier job": job k is released before the earlier job l, or is of the same row and released less
+-- than T ticks after it
 abbrev pub BreaksAgainst : Table → Jobs → ℕ → ℕ → Type 0
 BreaksAgainst tb js l k =
     (js .release k < js .release l)
     ⊎ ((js .row l ≡ js .row k) × (js .release k < js .release l + tb .T (js .row l)))
 
--- 8: "a job breaks a rule, by itself or against an earlier job", place "first such job (of a pair, the later)"
+-- 8, "a job breaks a rule": the place is the first job that breaks one by itself or against any job before it in
+-- the list
 abbrev pub job-rules : Table → List ℕ → Check
 job-rules tb js =
     record {
@@ -95,6 +101,6 @@ job-rules tb js =
           0;
     }
 
--- 2: "output too short for the answer", place 0
+-- 2, "output too short": the output has fewer places than the answer needs, place 0
 abbrev pub room : ℕ → List ℕ → Check
 room needed out = record { number = 2; hits = λ place. (place ≡ 0) × (length out < needed) }

@@ -1,4 +1,4 @@
--- Plans: document 01, "Plan for times, verdict and play".
+-- Plans: document 01, "Tables", the item "Plan for times".
 use Prim.Native.Nat.{ℕ, _+_, _*_, _≤_, _<_}
 use mathlib.Core.Path.{_≡_}
 use mathlib.Core.List.{List}
@@ -10,15 +10,15 @@ pub record Plan : Type 0 where
   pub rank : ℕ → ℕ
   pub len : ℕ → ℕ
 
--- "two numbers a row, rank and length, in table order"
+-- "two numbers a row": its rank and its length
 abbrev pub plan-width : ℕ
 plan-width = 2
 
--- the plan that stands in a slice
+-- the plan that stands in a slice, in the order of the rows; 0 for a number past the end
 abbrev pub planOf : List ℕ → Plan
 planOf ps = record { rank = λ i. getD ps (plan-width * i) 0; len = λ i. getD ps (plan-width * i + 1) 0 }
 
--- "A length is 1 to C": the most that the length of a row's final region may be
+-- "1 to C": the most that the length of a row's final region may be
 abbrev pub cap : Table → ℕ → ℕ
 cap tb i = tb .C i
 
@@ -26,7 +26,8 @@ cap tb i = tb .C i
 abbrev pub blocks : Plan → ℕ → ℕ
 blocks p j = p .len j
 
--- a well-formed plan: "Ranks are 1 to n, each once; 1 is highest. A length is 1 to C."
+-- "Ranks are 1 to n": in a well-formed plan every row has a rank from 1 to n that no other row has, and a length
+-- from 1 to the most that it may be
 pub record WellFormed (tb : Table) (p : Plan) : Type 0 where
   pub rank-low : (i : ℕ) → i < tb .n → 1 ≤ p .rank i
   pub rank-high : (i : ℕ) → i < tb .n → p .rank i ≤ tb .n

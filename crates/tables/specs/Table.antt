@@ -1,4 +1,4 @@
--- Task tables: document 01, "Tables, all of them slices of 32-bit numbers".
+-- Task tables: document 01, "Tables", the item "Task table".
 use Prim.Native.Nat.{ℕ, _+_, _*_, _/_, _≤_, _<_}
 use mathlib.Core.Path.{_≡_}
 use mathlib.Core.List.{List}
@@ -11,19 +11,19 @@ pub record Table : Type 0 where
   pub D : ℕ → ℕ
   pub T : ℕ → ℕ
 
--- "three numbers a row, C (worst run), D (deadline), T (least spacing)"
+-- "three numbers a row": its worst run, its deadline and its least spacing
 abbrev pub row-width : ℕ
 row-width = 3
 
--- "1 to 32 rows"
+-- "32 rows": the most that a table may have
 abbrev pub most-rows : ℕ
 most-rows = 32
 
--- "Each number is 1 to 1,000,000"
+-- "1 to 1,000,000": the largest number that may stand in a task table
 abbrev pub most : ℕ
 most = 1000000
 
--- the task table that stands in a slice
+-- the task table that stands in a slice: one row for every whole three numbers, and 0 for a number past the end
 abbrev pub tableOf : List ℕ → Table
 tableOf xs =
     record {
@@ -33,12 +33,12 @@ tableOf xs =
       T = λ i. getD xs (row-width * i + 2) 0;
     }
 
--- "Each number is 1 to 1,000,000"
+-- a number that may stand in a task table, at least 1 and at most the largest
 pub record Within (x : ℕ) : Type 0 where
   pub low : 1 ≤ x
   pub high : x ≤ most
 
--- a sound task table: "1 to 32 rows. Each number is 1 to 1,000,000. D may be below, equal to or above T."
+-- a sound task table: 1 to 32 rows, and every C, D and T from 1 to 1,000,000; how D lies to T does not matter
 pub record Sound (tb : Table) : Type 0 where
   pub some : 1 ≤ tb .n
   pub few : tb .n ≤ most-rows
