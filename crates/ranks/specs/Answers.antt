@@ -11,11 +11,13 @@ use Rattle.response.specs.Test.{ResponseOf}
 use Rattle.response.specs.Answers.{no-busy}
 use Rattle.ranks.specs.Choice.{Chosen, Stopped}
 
--- 5: "no plan passes", place 0
+-- 5, "no plan passes": the choice stops at some rank, place 0. That it does so exactly if no well-formed plan
+-- passes is the theorem of demand 2.
 abbrev pub no-plan : Table → Check
 no-plan tb = record { number = 5; hits = λ place. (place ≡ 0) × Stopped tb }
 
--- "Planned table (written by plan): three numbers a row, rank, length, response, in table order"; the remainder unchanged
+-- "Planned table": three numbers for each row of the table are given, and in them stand the chosen plan and the
+-- response of each row under it; the output is as long as before, and "the remainder unchanged" behind them
 pub record PlanGiven (tb : Table) (out : List ℕ) (value : ℕ) (after : List ℕ) : Type 0 where
   pub many : value ≡ planned-width * tb .n
   pub chosen : Chosen tb (plannedOf after)
@@ -23,7 +25,7 @@ pub record PlanGiven (tb : Table) (out : List ℕ) (value : ℕ) (after : List �
   pub whole : length after ≡ length out
   pub rest : drop (planned-width * tb .n) after ≡ drop (planned-width * tb .n) out
 
--- plan: "a task table to ranks, region lengths and response times"; refusals 1, 3, 2, 4, 5
+-- plan: the checks 1, 3, 2, 4 and 5 in this order, with three places of the output a row; then the planned table
 abbrev pub PlanAnswer : List ℕ → List ℕ → Result → Type 0
 PlanAnswer xs out r =
     let tb = tableOf xs in

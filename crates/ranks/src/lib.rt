@@ -1,1 +1,1 @@
-// The choice of ranks and lengths.
+// How the plan is chosen, and that the choice is complete: definitions and theorems, no function.

@@ -1,1 +1,1 @@
-// The response times of a plan.
+// The test that gives each row of a plan its response, and its laws: definitions and theorems, no function.
