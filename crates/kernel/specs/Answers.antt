@@ -10,14 +10,15 @@ use Rattle.tables.specs.Refusal.{Result, Answered}
 use Rattle.tables.specs.Checks.{shape, range, plan-form, jobs-shape, job-rules, room}
 use Rattle.kernel.specs.Rule.{Finishes}
 
--- "Finish output: one number a job, the tick after its last executed tick"; the remainder unchanged
+-- "Finish output": as many numbers as the list has jobs are given, at place k the finish of job k; the output is as
+-- long as before, and "the remainder unchanged" behind them
 pub record PlayGiven (tb : Table) (p : Plan) (js : Jobs) (out : List ℕ) (value : ℕ) (after : List ℕ) : Type 0 where
   pub many : value ≡ js .N
   pub finishes : (k : ℕ) → k < js .N → Finishes tb p js k (getD after k 0)
   pub whole : length after ≡ length out
   pub rest : drop (js .N) after ≡ drop (js .N) out
 
--- play: "a task table, a plan and a job list to finish ticks"; refusals 1, 3, 6, 7, 8, 2
+-- play: the checks 1, 3, 6, 7, 8 and 2 in this order, with a place of the output for each job; then the finishes
 abbrev pub PlayAnswer : List ℕ → List ℕ → List ℕ → List ℕ → Result → Type 0
 PlayAnswer xs ps js out r =
     let tb = tableOf xs in

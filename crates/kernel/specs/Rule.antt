@@ -8,7 +8,7 @@ use Rattle.tables.specs.Table.{Table}
 use Rattle.tables.specs.Plan.{Plan}
 use Rattle.tables.specs.Jobs.{Jobs}
 
--- what the kernel runs in a tick
+-- what the kernel runs in a tick: a job, by its number in the list, or nothing
 pub data Pick : Type 0 where
   job : ℕ → Pick
   idle : Pick
@@ -18,50 +18,55 @@ abbrev pub picked : Pick → ℕ → Bool
 picked (job j) k = eqb j k
 picked idle k = false
 
--- a job below N that passes the test, or the other pick where none does
+-- of the jobs below N that pass the test the last, or the other pick where none passes. Under a well-formed plan
+-- one job of a lawful list at most passes each of the rule's own tests (laws `runs-on-once` and `leads-once`), so
+-- that its place in the list never decides.
 unfoldable pub one-of : (ℕ → Bool) → ℕ → Pick → Pick
 one-of P zero other = other
 one-of P (suc k) other = elim (P k) [ true ↦ job k | false ↦ one-of P k other ]
 
--- "has executed more than C − length ticks": a job of row i that has executed e ticks is not preempted, the difference written as a sum
+-- "more than C − length": a job of row i that has executed e ticks has executed one of its final region at least,
+-- and is not preempted; the difference is written as a sum
 abbrev pub locked : Table → Plan → ℕ → ℕ → Bool
 locked tb p i e = ltb (tb .C i) (e + p .len i)
 
 -- Job k has executed x k ticks.
 module _ (tb : Table) (p : Plan) (js : Jobs) (x : ℕ → ℕ) where
-  -- "A job has finished once it has executed its run"
+  -- "has finished": a job is unfinished as long as it has executed less than its run, whatever the C of its row
   abbrev pub unfinished : ℕ → Bool
   unfinished k = ltb (x k) (js .run k)
 
-  -- (a) "an unfinished job that has executed more than C − length ticks"
+  -- (a) "runs on": a job that is unfinished, and has executed a tick of its final region at least
   abbrev pub runs-on : ℕ → Bool
   runs-on k = unfinished k && locked tb p (js .row k) (x k)
 
-  -- "A job released at a tick may run in that tick."
+  -- "pending": released at tick t or before it, and unfinished; a job may run in the tick of its release
   abbrev pub pending : ℕ → ℕ → Bool
   pending t k = leb (js .release k) t && unfinished k
 
-  -- "of highest rank .., the earliest released of its row": job l is to run before job k
+  -- "highest rank", "earliest released": job l is to run before job k where the rank of its row is higher, or where
+  -- both are of one row and l is released earlier
   abbrev pub ahead : ℕ → ℕ → Bool
   ahead l k =
       ltb (p .rank (js .row l)) (p .rank (js .row k))
       || (eqb (js .row l) (js .row k) && ltb (js .release l) (js .release k))
 
-  -- (b) "the pending job of highest rank .., the earliest released of its row": no pending job is ahead of it
+  -- (b) "the pending job": one that is pending, with no pending job of the list ahead of it
   abbrev pub leads : ℕ → ℕ → Bool
   leads t k = pending t k && eqb (count (λ l. pending t l && ahead l k) (js .N)) 0
 
-  -- "At each tick, in this order: (a) ..; (b) otherwise ..; (c) otherwise the tick is idle."
+  -- "in this order": the job that runs on, otherwise the job that leads, otherwise nothing
   unfoldable pub pick : ℕ → Pick
   pick t = one-of runs-on (js .N) (one-of (leads t) (js .N) idle)
 
 module _ (tb : Table) (p : Plan) (js : Jobs) where
-  -- the ticks that job k has executed before tick t
+  -- the ticks that job k has executed before tick t, one for each in which it was picked
   unfoldable pub executed : ℕ → ℕ → ℕ
   executed zero k = 0
   executed (suc t) k = executed t k + given (picked (pick tb p js (executed t) t) k) 1
 
-  -- "the tick after its last executed tick": by tick f job k has executed its run, and by the tick before less
+  -- "Tables", "Finish output": f is the tick after `last`, the last that job k executes; before tick `last` it has
+  -- executed less than its run, and before f all of it
   pub record Finishes (k f : ℕ) : Type 0 where
     pub last : ℕ
     pub after : f ≡ suc last

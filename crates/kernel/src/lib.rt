@@ -1,1 +1,1 @@
-// The kernel played from decision to decision.
+// The dispatch rule of the kernel, tick by tick, and its laws: definitions and theorems, no function.
