@@ -6,11 +6,12 @@ use Rattle.text.specs.Word.{word}
 use Rattle.text.specs.Decimal.{decimal}
 use Rattle.tables.specs.Planned.{planned-width}
 
--- "The first line gives the number of rows."
+-- "The first line": the word `plan`, one space, the number of rows in decimal, a line feed
 unfoldable pub planLine : ℕ → List ℕ
 planLine n = word "plan " ++ decimal n ++ word "\n"
 
--- "In each row line stand the row's number from 0, then rank, length and response in ticks."
+-- "each row line": the number of the row, its rank, its length and its response in decimal, each behind its own
+-- word, with one space between any two, and a line feed
 unfoldable pub rowLine : ℕ → ℕ → ℕ → ℕ → List ℕ
 rowLine i rank len response =
     (word "row " ++ decimal i)
@@ -19,7 +20,7 @@ rowLine i rank len response =
     ++ (word " response " ++ decimal response)
     ++ word "\n"
 
--- the lines of the rows below n of a planned table
+-- the lines of the rows below a number, counted from 0, of a planned table
 unfoldable pub rowLines : List ℕ → ℕ → List ℕ
 rowLines planned zero = []
 rowLines planned (suc i) =
@@ -30,7 +31,7 @@ rowLines planned (suc i) =
     (getD planned (planned-width * i + 1) 0)
     (getD planned (planned-width * i + 2) 0)
 
--- the text of a planned table
+-- the text of a planned table: the first line, and a line for every whole row
 unfoldable pub planText : List ℕ → List ℕ
 planText planned = planLine (length planned / planned-width) ++ rowLines planned (length planned / planned-width)
 
@@ -38,6 +39,7 @@ planText planned = planLine (length planned / planned-width) ++ rowLines planned
 abbrev pub longest-text : ℕ
 longest-text = 1950
 
--- "For a refusal it prints one line, the word `refused`, the number and the place, single spaces between them."
+-- "For a refusal": the word `refused`, then the number and then the place in decimal, one space in front of each,
+-- and a line feed
 unfoldable pub refusedLine : ℕ → ℕ → List ℕ
 refusedLine number place = (word "refused " ++ decimal number) ++ (word " " ++ decimal place) ++ word "\n"

@@ -9,7 +9,7 @@ use Rattle.text.specs.Decimal.{decimal}
 abbrev pub Begins : List ℕ → List ℕ → Type 0
 Begins p s = (rest : List ℕ) × (p ++ rest ≡ s)
 
--- "1 to .."
+-- a number from 1 to the most that is allowed, both included
 pub record Between (most x : ℕ) : Type 0 where
   pub low : 1 ≤ x
   pub high : x ≤ most
@@ -37,8 +37,8 @@ both P Q =
       Allowed = λ v. P .Allowed (v .0) × Q .Allowed (v .1);
     }
 
--- s does not begin with a text of the piece, and p is as far as the two go together: some text of the piece begins with the first p bytes
--- of s, and none, whatever follows it, begins with one byte more
+-- s does not begin with a text of the piece, and p is as far as the two go together: some text of the piece begins
+-- with the first p bytes of s, and none, whatever follows it, begins with one byte more
 pub record Stops (P : Piece) (s : List ℕ) (p : ℕ) : Type 0 where
   pub within : p ≤ length s
   pub begun : (v : P .Value) × P .Allowed v × Begins (take p s) (P .text v)

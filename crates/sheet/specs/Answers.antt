@@ -8,7 +8,8 @@ use Rattle.tables.specs.Refusal.{Check, Result, Refused, Answered}
 use Rattle.tables.specs.Checks.{range, room}
 use Rattle.sheet.specs.Sheet.{Task, Sheet, LongestPrefix, ticksOf}
 
--- 9: "sheet not well formed", place "byte offset"
+-- 9, "sheet not well formed": the text is no well-formed sheet; the place is where the longest prefix that it
+-- shares with one ends, counted in bytes from 0
 abbrev pub sheet-form : List ℕ → Check
 sheet-form text =
     record {
@@ -16,16 +17,16 @@ sheet-form text =
       hits = λ place. LongestPrefix text place × ((tick : ℕ) (ts : List Task) → Sheet text tick ts → ⊥);
     }
 
--- three numbers a row at the front of the output, "and the remainder unchanged"
+-- the numbers of a table in ticks are given, at the front of the output, "the remainder unchanged" behind them
 pub record SheetGiven (ticks out : List ℕ) (value : ℕ) (after : List ℕ) : Type 0 where
   pub many : value ≡ length ticks
   pub whole : after ≡ ticks ++ drop (length ticks) out
 
--- "The sheet operation then applies the limits of the task table (refusal 3), and after that refusal 2."
+-- "applies the limits": for a table in ticks the checks 3 and 2 in this order; then its numbers
 abbrev pub TicksAnswer : List ℕ → List ℕ → Result → Type 0
 TicksAnswer ticks out r = Answered (range ticks ∷ room (length ticks) out ∷ []) (SheetGiven ticks out) out r
 
--- sheet: "a text sheet to a task table in ticks"; refusals 9, 3, 2
+-- sheet: the check 9; where the text is a well-formed sheet, the answer for its table in ticks
 abbrev pub SheetAnswer : List ℕ → List ℕ → Result → Type 0
 SheetAnswer text out r =
     Refused (sheet-form text) out r

@@ -15,26 +15,29 @@ pub record Task : Type 0 where
   pub D : ℕ
   pub T : ℕ
 
--- "The first line is `tick N`, N from 1 to 1,000 microseconds."
+-- "N from 1 to 1,000": the longest tick in microseconds
 abbrev pub longest-tick : ℕ
 longest-tick = 1000
 
+-- "The first line": the word `tick`, one space, the tick in decimal, a line feed
 unfoldable pub tickLine : ℕ → List ℕ
 tickLine tick = word "tick " ++ decimal tick ++ word "\n"
 
--- "lines `task C D T` in microseconds, each 1 to 1,000,000,000"
+-- "each 1 to 1,000,000,000": the longest time of a task in microseconds
 abbrev pub longest-time : ℕ
 longest-time = 1000000000
 
+-- a line `task C D T`: the word `task`, then one space and a time in decimal, three times over, and a line feed
 unfoldable pub taskLine : Task → List ℕ
 taskLine t = word "task " ++ decimal (t .C) ++ word " " ++ decimal (t .D) ++ word " " ++ decimal (t .T) ++ word "\n"
 
+-- each time of a task is at least 1 and at most the longest
 pub record TaskWithin (t : Task) : Type 0 where
   pub C : Between longest-time (t .C)
   pub D : Between longest-time (t .D)
   pub T : Between longest-time (t .T)
 
--- "Then 1 to 32 lines .."
+-- the lines of the tasks in their order, and that all their times are within the limits
 unfoldable pub taskLines : List Task → List ℕ
 taskLines [] = []
 taskLines (t ∷ ts) = taskLine t ++ taskLines ts
@@ -43,14 +46,14 @@ abbrev pub TasksWithin : List Task → Type 0
 TasksWithin [] = Unit {0}
 TasksWithin (t ∷ ts) = TaskWithin t × TasksWithin ts
 
--- a tick and tasks that a well-formed sheet may have
+-- a tick and tasks that a well-formed sheet may have: the tick and all times within their limits, 1 to 32 tasks
 pub record WellFormed (tick : ℕ) (ts : List Task) : Type 0 where
   pub tick-within : Between longest-tick tick
   pub some : 1 ≤ length ts
   pub few : length ts ≤ most-rows
   pub tasks : TasksWithin ts
 
--- their text
+-- their text: the first line, and the lines of the tasks behind it
 unfoldable pub sheetText : ℕ → List Task → List ℕ
 sheetText tick ts = tickLine tick ++ taskLines ts
 
@@ -63,13 +66,15 @@ pub record Sheet (text : List ℕ) (tick : ℕ) (ts : List Task) : Type 0 where
 abbrev pub Shared : List ℕ → Type 0
 Shared p = (tick : ℕ) × (ts : List Task) × WellFormed tick ts × Begins p (sheetText tick ts)
 
--- "the length of the longest prefix that some well-formed sheet also begins with"
+-- "the longest prefix": some well-formed sheet begins with the first `place` bytes of the text, and none with more
+-- of them
 pub record LongestPrefix (text : List ℕ) (place : ℕ) : Type 0 where
   pub within : place ≤ length text
   pub shared : Shared (take place text)
   pub longest : (m : ℕ) → m ≤ length text → Shared (take m text) → m ≤ place
 
--- "All three values are rounded up to whole ticks": the row of a task, and the table of all
+-- "rounded up to whole ticks": the row of a task, each of its three times divided by the tick and rounded up; and
+-- the table of all
 abbrev pub rowOf : ℕ → Task → List ℕ
 rowOf tick t = up (t .C) tick ∷ up (t .D) tick ∷ up (t .T) tick ∷ []
 

@@ -12,11 +12,11 @@ digitsIn zero x = []
 digitsIn (suc k) zero = []
 digitsIn (suc k) (suc x) = digitsIn k (suc x / 10) ++ (nought + suc x % 10) ∷ []
 
--- all digits of x, of which it has no more than x: none of 0
+-- all digits of x, of which it has no more than x; none of 0
 unfoldable pub digits : ℕ → List ℕ
 digits x = digitsIn x x
 
--- the decimal text: "no leading zeros", so that only 0 itself begins with 0
+-- the decimal text, "no leading zeros": only that of 0 itself begins with 0
 unfoldable pub decimal : ℕ → List ℕ
 decimal zero = nought ∷ []
 decimal (suc x) = digits (suc x)

@@ -1,4 +1,5 @@
--- The bytes of a word: document 01's words and lines as it writes them, "A sheet is ASCII".
+-- The bytes of a word as it stands on a sheet or a printed plan, the code of each character: document 01, "Sheet
+-- and printed plan", has ASCII only.
 use Prim.Native.Nat.{ℕ}
 use Prim.Native.Char.{code}
 use Prim.Native.String.{String, [] as none, _∷_ as _then_}
