@@ -1,4 +1,5 @@
--- Demand 3 in the caller's words: what `times`, `plan` or `verdict` said, against every lawful run, and against the finishes that `play` wrote.
+-- Demand 3 in the caller's words: what `times`, `plan` or `verdict` said, against every lawful run, and against the
+-- finishes that `play` wrote.
 use Prim.Native.Nat.{ℕ, _+_, _≤_, _<_}
 use mathlib.Core.Path.{_≡_}
 use mathlib.Core.Logic.{_↔_}
@@ -14,8 +15,8 @@ use Rattle.kernel.specs.Answers.{PlayAnswer}
 use Rattle.demands.specs.Demand2.{Columns}
 use Rattle.demands.specs.Demand3.{NeverLonger, TakesExactly, MeetsDeadlines}
 
--- whatever times wrote for a row is exact for it under the plan that it was given: no job of any lawful list takes longer, and in some lawful
--- list a job takes exactly that
+-- whatever times wrote for a row is exact for it under the plan that it was given: no job of any lawful list takes
+-- longer, and in some lawful list a job takes exactly that
 abbrev pub TimesAreExact : Type 0
 TimesAreExact =
     (xs ps out : List ℕ) (r : Result) → TimesAnswer xs ps out r → r .number ≡ 0 →
@@ -35,8 +36,8 @@ abbrev pub VerdictDecides : Type 0
 VerdictDecides =
     (xs ps : List ℕ) (r : Result) → VerdictAnswer xs ps r → r .number ≡ 0 → (r .value ≡ 1) ↔ MeetsDeadlines (tableOf xs) (planOf ps)
 
--- whatever times wrote for a row, in whatever job list play accepted for that table and plan, the finish that play wrote is at most
--- release plus it
+-- whatever times wrote for a row, in whatever job list play accepted for that table and plan, the finish that play
+-- wrote is at most release plus it
 abbrev pub TimesHoldInPlay : Type 0
 TimesHoldInPlay =
     (xs ps js lent-times lent-finishes : List ℕ) (times play : Result) →
@@ -45,8 +46,8 @@ TimesHoldInPlay =
     (k : ℕ) → k < jobsOf js .N →
     getD (play .out) k 0 ≤ jobsOf js .release k + getD (times .out) (jobsOf js .row k) 0
 
--- whatever plan wrote for a row, in whatever job list play accepted for that table and the plan that it wrote, the finish that play wrote is
--- at most release plus it
+-- whatever plan wrote for a row, in whatever job list play accepted for that table and the plan that it wrote, the
+-- finish that play wrote is at most release plus it
 abbrev pub PlanHoldsInPlay : Type 0
 PlanHoldsInPlay =
     (xs ps js lent-plan lent-finishes : List ℕ) (plan play : Result) →
@@ -56,7 +57,8 @@ PlanHoldsInPlay =
     (k : ℕ) → k < jobsOf js .N →
     getD (play .out) k 0 ≤ jobsOf js .release k + responseIn (plan .out) (jobsOf js .row k)
 
--- where verdict said yes, in whatever job list play accepted for that table and plan, the finish that play wrote is at most release plus deadline
+-- where verdict said yes, in whatever job list play accepted for that table and plan, the finish that play wrote is
+-- at most release plus deadline
 abbrev pub VerdictHoldsInPlay : Type 0
 VerdictHoldsInPlay =
     (xs ps js lent-finishes : List ℕ) (verdict play : Result) →

@@ -1,4 +1,5 @@
--- Demand 2, in the words of a caller of `times` and `plan`: each statement is about whatever the promise of the operation allows it to answer.
+-- Demand 2, in the words of a caller of `times` and `plan`: each statement is about whatever the promise of the
+-- operation allows it to answer.
 use Prim.Native.Nat.{ℕ, _*_, _≤_, _<_}
 use mathlib.Core.Path.{_≡_}
 use mathlib.Core.Logic.{_↔_}
@@ -14,7 +15,7 @@ use Rattle.response.specs.Answers.{TimesAnswer, VerdictAnswer}
 use Rattle.ranks.specs.Choice.{unplaced}
 use Rattle.ranks.specs.Answers.{PlanAnswer, planned-width, plannedOf, responseIn}
 
--- "For a sound table with its busy period within the horizon and room for the output"
+-- "a sound table": whole rows of one, a busy period of at most H, and three places of the output for each row
 pub record Plannable (xs out : List ℕ) : Type 0 where
   pub whole : length xs ≡ row-width * tableOf xs .n
   pub sound : Sound (tableOf xs)
@@ -25,34 +26,35 @@ pub record Plannable (xs out : List ℕ) : Type 0 where
 abbrev pub Accepted : List ℕ → List ℕ → Type 0
 Accepted xs ps = Clear (plan-form (tableOf xs) ps)
 
--- R is the test's response of row i under the plan p, and no other number is; "every R" is at most H, and "R is never below C"
+-- R is the response that the test has for row i under the plan p, the only one, at least the row's C and at most H
 pub record TestsResponse (tb : Table) (p : Plan) (i R : ℕ) : Type 0 where
   pub is : ResponseOf tb p i R
   pub only : (S : ℕ) → ResponseOf tb p i S → S ≡ R
   pub low : tb .C i ≤ R
   pub high : R ≤ horizon
 
--- "Response times equal those of document 01's test": what times wrote for a row of the plan that it was given
+-- "Response times equal": what times wrote for a row is the test's response under the plan that it was given
 abbrev pub TimesAreTheTests : Type 0
 TimesAreTheTests =
     (xs ps out : List ℕ) (r : Result) → TimesAnswer xs ps out r → r .number ≡ 0 →
     (i : ℕ) → i < tableOf xs .n → TestsResponse (tableOf xs) (planOf ps) i (getD (r .out) i 0)
 
--- and what plan wrote for a row of the plan that it wrote
+-- and what plan wrote for a row is the test's response under the plan that it wrote
 abbrev pub PlannedAreTheTests : Type 0
 PlannedAreTheTests =
     (xs out : List ℕ) (r : Result) → PlanAnswer xs out r → r .number ≡ 0 →
     (i : ℕ) → i < tableOf xs .n → TestsResponse (tableOf xs) (plannedOf (r .out)) i (responseIn (r .out) i)
 
--- Complete: "a plan is refused exactly if no ranks with any lengths pass"
+-- complete, "refused exactly if": plan answers 5 exactly if no ranks with lengths, as `times` accepts them, pass
 abbrev pub RefusedExactlyIfNonePasses : Type 0
 RefusedExactlyIfNonePasses =
     (xs out : List ℕ) (r : Result) → Plannable xs out → PlanAnswer xs out r →
     (r .number ≡ 5) ↔ ((ps : List ℕ) → Accepted xs ps → Passes (tableOf xs) (planOf ps) → ⊥)
 
--- "A given plan passes it and has, at each rank filled from the lowest up, the row with the shortest region that passes": for the rank held by
--- row y, any row z of that or a higher rank and any length of z: where z's response with that length, the other rows of these ranks above
--- it and the rows of lower rank below it, is at most z's deadline, the length of y is no longer, and where it is equal y is not later in the table
+-- "the shortest region that passes": a given plan is well formed and passes and, for the rank held by row y, any
+-- row z of that or a higher rank and any length of z: where the response of z with that length, the other rows of
+-- these ranks above it and the rows of lower rank below it, is at most the deadline of z, the length of y is no
+-- longer, and where it is equal y is not later in the table
 pub record Given (tb : Table) (p : Plan) : Type 0 where
   pub well-formed : WellFormed tb p
   pub passes : Passes tb p
@@ -79,7 +81,7 @@ pub record Agrees (xs ps : List ℕ) (planned : List ℕ) : Type 0 where
       (r .number ≡ 0) × ((i : ℕ) → i < tableOf xs .n → getD (r .out) i 0 ≡ responseIn planned i)
   pub verdict : (r : Result) → VerdictAnswer xs ps r → (r .number ≡ 0) × (r .value ≡ 1)
 
--- Together: there are such columns, and for any of them the three operations agree
+-- together: there are such columns, and for any of them the three operations agree
 abbrev pub PlanTimesVerdictAgree : Type 0
 PlanTimesVerdictAgree =
     (xs out : List ℕ) (r : Result) → PlanAnswer xs out r → r .number ≡ 0 →

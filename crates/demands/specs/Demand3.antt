@@ -1,5 +1,5 @@
--- Demand 3, "about the rule itself, over finite job lists with no limit on their number or release ticks": no job takes longer than its row's
--- response, and some job takes exactly that.
+-- Demand 3, by document 01 "about the rule itself": in no lawful job list does a job take longer than its row's
+-- response, and in some list a job takes exactly that.
 use Prim.Native.Nat.{ℕ, _+_, _≤_, _<_}
 use mathlib.Core.Path.{_≡_}
 use Rattle.tables.specs.Table.{Table, Sound}
@@ -8,14 +8,14 @@ use Rattle.tables.specs.Jobs.{Jobs, Lawful}
 use Rattle.response.specs.Test.{BusyWithin, ResponseOf, Passes}
 use Rattle.kernel.specs.Rule.{executed, Finishes}
 
--- no job of row i takes longer than R: in every lawful list, of any number of jobs, at any ticks and in any order, it has executed its whole
--- run at tick release + R
+-- no job of row i takes longer than R: in every lawful list, of any number of jobs, at any ticks and in any order,
+-- it has executed its whole run at tick release + R
 abbrev pub NeverLonger : Table → Plan → ℕ → ℕ → Type 0
 NeverLonger tb p i R =
     (js : Jobs) → Lawful tb js → (k : ℕ) → k < js .N → js .row k ≡ i → executed tb p js (js .release k + R) k ≡ js .run k
 
--- some job of row i takes exactly R: in a lawful list, with its releases in the order that play asks for, it is unfinished at tick
--- release + R − 1 and finished at tick release + R
+-- some job of row i takes exactly R: in a lawful list, with its releases in the order that play asks for, it is
+-- unfinished at tick release + R − 1 and finished at tick release + R
 pub record TakesExactly (tb : Table) (p : Plan) (i R : ℕ) : Type 0 where
   pub list : Jobs
   pub lawful : Lawful tb list

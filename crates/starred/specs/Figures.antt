@@ -1,4 +1,5 @@
--- The starred figures: document 01, "Figures on both sides of each edge", every line marked with *, as one table under one statement.
+-- The starred figures: document 01, "Figures on both sides of each edge", every line marked with *, as one table
+-- under one statement.
 use Prim.Native.Nat.{ℕ, suc, _+_, _*_, _≤_}
 use mathlib.Core.Path.{_≡_}
 use mathlib.Core.List.{List, [], _∷_}
@@ -72,21 +73,21 @@ three-rows = 1 ∷ 4 ∷ 4 ∷ 1 ∷ 6 ∷ 6 ∷ 4 ∷ 12 ∷ 12 ∷ []
 unfoldable pub figures : List Figure
 figures =
     plans first-table (1 ∷ 1 ∷ 1 ∷ [])
-    -- (2,5,5) (4,7,7): "The second row's first job takes 6, its second 7."
+    -- the second table, with what the first and the second job of its second row take
     ∷ plans second-table (1 ∷ 1 ∷ 3 ∷ 2 ∷ 2 ∷ 7 ∷ [])
     ∷ takes second-table second-plan 1 0 6
     ∷ takes second-table second-plan 1 1 7
-    -- "Play on the second table and its plan"
+    -- the second table played under its plan
     ∷ plays second-table second-plan (1 ∷ 0 ∷ 4 ∷ 0 ∷ 3 ∷ 2 ∷ []) (4 ∷ 6 ∷ [])
     ∷ plays second-table second-plan (1 ∷ 0 ∷ 4 ∷ 0 ∷ 2 ∷ 2 ∷ []) (6 ∷ 4 ∷ [])
     ∷ plays second-table second-plan (1 ∷ 0 ∷ 3 ∷ 0 ∷ 3 ∷ 2 ∷ []) (3 ∷ 5 ∷ [])
     ∷ plans third-table (1 ∷ 1 ∷ 4 ∷ 2 ∷ 3 ∷ 6 ∷ [])
     ∷ refuses (2 ∷ 5 ∷ 5 ∷ 4 ∷ 5 ∷ 7 ∷ []) 5 0
-    -- "The tie at rank 2 goes to row 0."
+    -- "The tie at rank 2": there the shortest lengths of rows 0 and 1 are equal, and the earlier row takes the rank
     ∷ plans three-rows (2 ∷ 1 ∷ 2 ∷ 1 ∷ 1 ∷ 1 ∷ 3 ∷ 1 ∷ 8 ∷ [])
     ∷ shortest three-rows (2 ∷ 1 ∷ 1 ∷ 1 ∷ 3 ∷ 1 ∷ []) 2 0 1
     ∷ shortest three-rows (2 ∷ 1 ∷ 1 ∷ 1 ∷ 3 ∷ 1 ∷ []) 2 1 1
-    -- "Source document 002 has the 6 of the last row, and 8 with full preemption": lengths of 1
+    -- the same table under ranks in table order; "full preemption" is a length of 1 in every row
     ∷ timed three-rows (1 ∷ 1 ∷ 2 ∷ 1 ∷ 3 ∷ 3 ∷ []) (3 ∷ 4 ∷ 6 ∷ [])
     ∷ timed three-rows (1 ∷ 1 ∷ 2 ∷ 1 ∷ 3 ∷ 4 ∷ []) (4 ∷ 6 ∷ 6 ∷ [])
     ∷ timed three-rows (1 ∷ 1 ∷ 2 ∷ 1 ∷ 3 ∷ 1 ∷ []) (1 ∷ 2 ∷ 8 ∷ [])
@@ -94,8 +95,9 @@ figures =
     ∷ refuses (5 ∷ 4 ∷ 9 ∷ []) 5 0
     ∷ []
 
--- beside them, for the wrong versions that no starred table tells from the right one. Below the lowest rank the first row of the table stands
--- highest; utilisations that are each rounded up exceed 1 where their sum is 1; rounded down they do not where their sum does.
+-- beside them, for the wrong versions that no starred table tells from the right one: a table whose first row has
+-- to stand highest of the ranks above the lowest; one whose utilisations sum to 1, and to more where each is
+-- rounded up; and one whose utilisations sum to more than 1, and not where each is rounded down
 abbrev pub urgent-first : List ℕ
 urgent-first = 1 ∷ 1 ∷ 10 ∷ 1 ∷ 5 ∷ 10 ∷ 1 ∷ 12 ∷ 12 ∷ []
 

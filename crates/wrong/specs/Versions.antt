@@ -1,5 +1,5 @@
--- Wrong versions of plan: document 01, "These versions have to break it", and "Shortcuts that give a wrong manual". Each breaks the promise
--- on a table that is named here.
+-- Wrong versions of plan, each of which breaks the promise on a table that is named here: document 01, "What the
+-- manual may rely on" and "Shortcuts that give a wrong manual".
 use Prim.Native.Nat.{ℕ, _*_, _/_, _%_, _≤_, _<_}
 use mathlib.Core.Path.{_≡_}
 use mathlib.Core.Logic.{_↔_}
@@ -16,7 +16,7 @@ use Rattle.starred.specs.Figures.{second-table, third-table, three-rows, overlo
 abbrev pub Version : Type 0
 Version = List ℕ → List ℕ → Result
 
--- "slices of 32-bit numbers": what a program can be lent
+-- "slices of 32-bit numbers": what a program can be lent, every number below 2^32
 abbrev pub Words : List ℕ → Type 0
 Words xs = (i : ℕ) → i < length xs → getD xs i 0 < 4294967296
 
@@ -24,12 +24,12 @@ Words xs = (i : ℕ) → i < length xs → getD xs i 0 < 4294967296
 abbrev pub Always : (List ℕ → List ℕ → Type 0) → Type 0
 Always Holds = (xs out : List ℕ) → Words xs → Words out → Holds xs out
 
--- "one that refuses everything"
+-- "refuses everything": for every table and output its answer is some refusal
 abbrev pub RefusesEverything : Version → Type 0
 RefusesEverything f = Always (λ xs out. 1 ≤ f xs out .number)
 
--- "one that gives a fixed plan": tables of as many rows that it plans get the same ranks and lengths, whatever the responses in front
--- and whatever stands behind them
+-- "gives a fixed plan": two tables of as many rows that it plans get the same ranks and lengths, whatever the
+-- responses beside them and whatever stands behind
 abbrev pub GivesAFixedPlan : Version → Type 0
 GivesAFixedPlan f =
     Always (λ xs out. Always (λ ys lent.
@@ -39,15 +39,16 @@ GivesAFixedPlan f =
     let q = plannedOf (f ys lent .out) in
     (p .rank i ≡ q .rank i) × (p .len i ≡ q .len i)))
 
--- "or leaves the output untouched"
+-- "leaves the output untouched": whatever it answers, the output is as it was lent
 abbrev pub LeavesTheOutput : Version → Type 0
 LeavesTheOutput f = Always (λ xs out. f xs out .out ≡ out)
 
--- against "Nothing lent is written on a refusal": one that writes into any output that has a place
+-- against "Nothing lent is written": where it refuses, an output that has a place is not as it was lent
 abbrev pub WritesOnARefusal : Version → Type 0
 WritesOnARefusal f = Always (λ xs out. 1 ≤ f xs out .number → 1 ≤ length out → f xs out .out ≡ out → ⊥)
 
--- "one that searches at rank n only and fills other ranks in table order": in that order from the highest rank on, or from the lowest
+-- "searches at rank n only": in every table that it plans the rows that do not have rank n have the other ranks in
+-- table order, from the highest rank on or from the lowest
 abbrev pub SearchesTheLowestOnly : ((ℕ → ℕ) → ℕ → ℕ → Type 0) → Version → Type 0
 SearchesTheLowestOnly Ordered f =
     Always (λ xs out.
@@ -56,7 +57,7 @@ SearchesTheLowestOnly Ordered f =
     let rank = plannedOf (f xs out .out) .rank in
     (i j : ℕ) → i < j → j < n → rank i < n → rank j < n → Ordered rank i j)
 
--- "Taking priorities by deadline first and lengths afterwards"
+-- "priorities by deadline first": in every table that it plans the smaller of two deadlines has the higher rank
 abbrev pub RanksByDeadline : Version → Type 0
 RanksByDeadline f =
     Always (λ xs out.
@@ -65,8 +66,8 @@ RanksByDeadline f =
     let rank = plannedOf (f xs out .out) .rank in
     (i j : ℕ) → i < tb .n → j < tb .n → tb .D i < tb .D j → rank i < rank j)
 
--- "Refusing 4 from a sum of rounded utilisations": each C/T in parts of a whole (100 for percent), rounded up or down, and 4, where the
--- earlier checks are clear, exactly if the sum is more than the whole
+-- "a sum of rounded utilisations": each C/T in parts of a whole (100 for percent), rounded up or down, and 4, where
+-- the earlier checks are clear, exactly if the sum is more than the whole
 abbrev pub RefusesByUtilisation : (ℕ → ℕ → ℕ) → ℕ → Version → Type 0
 RefusesByUtilisation rounded whole f =
     Always (λ xs out.
