@@ -5,7 +5,7 @@ use lib.ListN.{length}
 use Rattle.desk.specs.declared.Input.{Input}
 use Rattle.desk.specs.declared.Input.the-variants.{Whole, Failed}
 
--- as many bytes at the front of the buffer
+-- the bytes that were read are no more than the buffer has; of a failed read nothing is said
 abbrev pub Within : List ℕ → Input → Type 0
 Within buf (Whole n) = n ≤ length buf
 Within buf Failed = Unit {0}

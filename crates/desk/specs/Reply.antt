@@ -14,7 +14,7 @@ use Rattle.page.specs.Printed.{planText, longest-text, refusedLine}
 abbrev pub blank : ℕ → List ℕ
 blank width = replicate (width * most-rows) 0
 
--- a refusal's line: "the word `refused`, the number and the place"
+-- where the answer is a refusal the page is its line
 abbrev pub Refuses : Answer → List ℕ → Type 0
 Refuses a page = (numberOf a ≡ 0 → ⊥) → page ≡ refusedLine (numberOf a) (placeOf a)
 
@@ -26,7 +26,7 @@ pub record PagePlanned (table page : List ℕ) : Type 0 where
   pub given : numberOf answer ≡ 0 → page ≡ planText (take (valueOf answer) after)
   pub refused : Refuses answer page
 
--- "reads a sheet .. it prints": the page of the table that sheet gives, or the line of its refusal
+-- "reads a sheet": the page of the table that sheet gives for the text, or the line of its refusal
 pub record Page (text page : List ℕ) : Type 0 where
   pub answer : Answer
   pub after : List ℕ

@@ -1,4 +1,4 @@
--- What a call of the C surface answers and leaves, as a result of the scope's own kind.
+-- What a call of the C surface answers and leaves, as a result of the kind that the promises speak of.
 use mathlib.Core.List.{List}
 use Prim.Native.Nat.{ℕ}
 use Rattle.tables.specs.Refusal.{Result}
