@@ -1,4 +1,4 @@
-// What play decides with: which job of a row is next, which is the next release, which row's job runs, and for how long.
+// What play decides with: which job of a row is next, which release is next, which row's job runs, and how long.
 ghost use mathlib.Core.Path.{_≡_};
 ghost use Prim.Native.Nat.{ℕ, _+_, _*_, _≤_, _<_};
 ghost use lib.ListN.{length, getD};

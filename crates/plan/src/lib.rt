@@ -1,4 +1,5 @@
-// The operation plan: the checks in their order, the ranks filled, and each row's three numbers into its own part of the output.
+// The operation plan: the checks in their order, the ranks filled, and each row's three numbers into its own part
+// of the output.
 ghost use mathlib.Core.Path.{_≡_};
 ghost use mathlib.Core.List.{_++_};
 ghost use Prim.Native.Nat.{_*_, _≤_};

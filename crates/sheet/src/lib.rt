@@ -1,4 +1,4 @@
-// A text sheet to a task table in ticks: one pass over the text, then the limits of the table, then the room for it.
+// The operation sheet: one pass over the text, then the limits of the table in ticks, then the room for it.
 use reading::Cursor;
 use reading::NumberRead;
 use reading::WordRead;

@@ -1,4 +1,5 @@
-// The right sides of the test's equations, over what the rows ask with and a set of them. Each row of the set is counted once, by its mark.
+// The right sides of the test's equations, over what the rows ask with and a set of them. Each row of the set is
+// counted once, by its mark.
 ghost use mathlib.Core.Path.{_≡_};
 ghost use Prim.Native.Nat.{_+_, _<_, _≤_};
 ghost use Rattle.marks.specs.Marks.{marked};

@@ -1,4 +1,5 @@
-// The public library: the seven operations as licensees call them. A promise here is the operation's own, with number, place and value as C has them.
+// The public library: the seven operations as licensees call them. A promise here is the operation's own, with
+// number, place and value as C has them.
 use tables::Said;
 ghost use mathlib.Core.List.{[]};
 ghost use mathlib.Core.Path.{_≡_};
