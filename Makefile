@@ -1,24 +1,36 @@
 # The two commands of the README, make test and make run, and what licensees and the curious need besides.
-.PHONY: test run lib kit
+.PHONY: test run lib program sheets kit sheet-is-there
 
-# Everything: the library's archive and what is tried on it from outside, then the kit's own verdict, whose last line is the gate's.
-test: kit outside-test
+# Everything: what is tried from outside on the archive and on the program, then the kit's own verdict, whose
+# last line is the gate's.
+test: kit outside-test sheets
 	@rt fmt --check
 	@rt ci
 
-# The plan of a sheet, and nothing else, on standard output; what the proofs print goes to target/run.log.
-run: kit
-	@[ -n "$(SHEET)" ] || { echo "make run: name a sheet, as in make run SHEET=path" >&2; exit 1; }
-	@[ -r "$(SHEET)" ] || { echo "make run: there is no sheet $(SHEET)" >&2; exit 1; }
-	@mkdir -p target && rt check planner >target/run.log 2>&1 || { echo "make run: planner is not proved, see target/run.log" >&2; exit 1; }
+# The plan of a sheet, and nothing else, on standard output.
+run: sheet-is-there program
 	@$(X86_RUN) target/bin/planner <"$(SHEET)"
+
+# Each sheet of examples/sheets to the plan beside it.
+sheets: program
+	@outside/sheets.sh examples/sheets $(OUTSIDE)/sheets $(X86_RUN) target/bin/planner
 
 # The archive that licensees link, target/staticlib/libtempletbark.a.
 lib: kit
 	@rt staticlib templetbark
 
+# The program, target/bin/planner; what the proofs print goes to a file, and is shown if they fail.
+program: kit
+	@mkdir -p target
+	@rt check planner >target/program.log 2>&1 || \
+		{ cat target/program.log >&2; echo "make: planner is not proved" >&2; exit 1; }
+
 kit:
 	@command -v rt >/dev/null || { echo "make: the Rattle kit is missing: its command rt is not on the path" >&2; exit 1; }
+
+sheet-is-there:
+	@[ -n "$(SHEET)" ] || { echo "make run: name a sheet, as in make run SHEET=path" >&2; exit 1; }
+	@[ -r "$(SHEET)" ] || { echo "make run: there is no sheet $(SHEET)" >&2; exit 1; }
 
 archive-is-there: lib
 

@@ -1,4 +1,0 @@
-// `planner` on a sheet of 32 tasks.
-fn main() {
-    desk::run();
-}

@@ -1,4 +1,0 @@
-// `planner` on an empty sheet.
-fn main() {
-    desk::run();
-}

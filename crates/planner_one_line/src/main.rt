@@ -1,4 +1,0 @@
-// `planner` on a sheet of the one line `tick 5`.
-fn main() {
-    desk::run();
-}
