@@ -24,7 +24,8 @@ tools-are-there:
 		command -v $$tool >/dev/null || { echo "outside: $$tool is not installed" >&2; exit 1; }; \
 	done
 
-# What the archive is made by, where the same run makes it, is a prerequisite of this; what links it is linked anew each time.
+# What the archive is made by, where the same run makes it, is a prerequisite of this; what links it is linked
+# anew each time.
 archive-is-there:
 	@[ -f $(ARCHIVE) ] || { echo "outside: there is no $(ARCHIVE); make lib writes it" >&2; exit 1; }
 
@@ -50,10 +51,10 @@ $(OUTSIDE)/bench: $(wildcard outside/bench/*.rs) $(OUTSIDE)/libcommon.rlib
 $(OUTSIDE)/bridge.o: outside/bridge/bridge.c include/templetbark.h | $(OUTSIDE)
 	$(X86_CC) -ffreestanding -c $< -o $@
 
-$(OUTSIDE)/fast.o: $(wildcard outside/fast/*.rs) outside/to_x86_64.sh | $(OUTSIDE)
-	outside/to_x86_64.sh outside/fast/lib.rs $@ $(X86_CLANG)
+$(OUTSIDE)/by_hand.o: $(wildcard outside/by_hand/*.rs outside/surface/*.rs) outside/to_x86_64.sh | $(OUTSIDE)
+	outside/to_x86_64.sh outside/by_hand/lib.rs $@ $(X86_CLANG)
 
-$(OUTSIDE)/literal.o: $(wildcard outside/literal/*.rs outside/fast/*.rs) outside/to_x86_64.sh | $(OUTSIDE)
+$(OUTSIDE)/literal.o: $(wildcard outside/literal/*.rs outside/surface/*.rs) outside/to_x86_64.sh | $(OUTSIDE)
 	outside/to_x86_64.sh outside/literal/lib.rs $@ $(X86_CLANG)
 
 $(OUTSIDE)/bridge-product: archive-is-there $(OUTSIDE)/bridge.o
@@ -75,10 +76,11 @@ outside-test: $(OUTSIDE)/plan_and_play $(OUTSIDE)/compare $(OUTSIDE)/bridge-prod
 	$(OUTSIDE)/compare $(X86_RUN) $(OUTSIDE)/bridge-product
 
 # The comparison itself: the hand-written version passes it, and each wrong version of it is caught.
-outside-wrong: $(OUTSIDE)/compare $(OUTSIDE)/bridge-fast
-	$(OUTSIDE)/compare $(X86_RUN) $(OUTSIDE)/bridge-fast
+outside-wrong: $(OUTSIDE)/compare $(OUTSIDE)/bridge-by_hand
+	$(OUTSIDE)/compare $(X86_RUN) $(OUTSIDE)/bridge-by_hand
 	outside/wrong.sh $(OUTSIDE) $(X86_CLANG) '$(X86_LINK)' '$(X86_RUN)'
 
 # The library beside the hand-written version and the literal search, as tables for docs/PERFORMANCE.md.
-bench: $(OUTSIDE)/bench $(OUTSIDE)/bridge-product $(OUTSIDE)/bridge-fast $(OUTSIDE)/bridge-literal
-	$(OUTSIDE)/bench '$(X86_RUN) $(OUTSIDE)/bridge-product' '$(X86_RUN) $(OUTSIDE)/bridge-fast' '$(X86_RUN) $(OUTSIDE)/bridge-literal'
+bench: $(OUTSIDE)/bench $(OUTSIDE)/bridge-product $(OUTSIDE)/bridge-by_hand $(OUTSIDE)/bridge-literal
+	$(OUTSIDE)/bench '$(X86_RUN) $(OUTSIDE)/bridge-product' '$(X86_RUN) $(OUTSIDE)/bridge-by_hand' \
+		'$(X86_RUN) $(OUTSIDE)/bridge-literal'

@@ -1,7 +1,7 @@
 //! The kernel's run tick by tick, looking at every job in every tick.
 
-use crate::checks::MOST_JOBS;
-use crate::rows::{Planned, Rows, PLACES};
+use crate::surface::checks::MOST_JOBS;
+use crate::surface::rows::{Planned, Rows, PLACES};
 
 pub fn finishes(rows: &Rows, plan: &[Planned; PLACES], jobs: &[u32], out: &mut [u32]) {
     let mut executed = [0u32; MOST_JOBS];

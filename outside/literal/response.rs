@@ -1,6 +1,6 @@
 //! Responses with every fixed point iterated from its lowest value.
 
-use crate::rows::{Planned, Row, Rows, HORIZON, PLACES};
+use crate::surface::rows::{Planned, Row, Rows, HORIZON, PLACES};
 use crate::work;
 
 /// Iterates a right side from `from` until a value repeats, exceeds the horizon, or the work is over.

@@ -1,8 +1,8 @@
 //! The choice of ranks with every row tried at every length from 1 up.
 
-use crate::answer::Refusal;
 use crate::response::{busy_period, response, Chosen};
-use crate::rows::{Planned, Rows, PLACES};
+use crate::surface::answer::Refusal;
+use crate::surface::rows::{Planned, Rows, PLACES};
 use crate::work;
 
 /// The shortest passing length of row i, with its response.

@@ -1,7 +1,7 @@
 //! The refusals of tables, plans and job lists, each in one pass.
 
-use crate::answer::Refusal;
-use crate::rows::{Planned, Row, Rows, MOST, PLACES};
+use super::answer::Refusal;
+use super::rows::{Planned, Row, Rows, MOST, PLACES};
 
 pub const MOST_JOBS: usize = 4_096;
 
@@ -54,7 +54,13 @@ pub fn jobs(rows: &Rows, jobs: &[u32]) -> Result<usize, Refusal> {
     let mut last = 0;
     for (i, job) in jobs.chunks_exact(3).enumerate() {
         let (row, release, run) = (job[0] as usize, u64::from(job[1]), u64::from(job[2]));
-        if row >= rows.n || release > MOST || release < last || run == 0 || run > rows.row[row].c || release < earliest[row] {
+        if row >= rows.n
+            || release > MOST
+            || release < last
+            || run == 0
+            || run > rows.row[row].c
+            || release < earliest[row]
+        {
             return Err(Refusal(8, i));
         }
         last = release;

@@ -1,6 +1,6 @@
 //! The kernel's run from decision to decision, at most two a job, with a state of 32 places.
 
-use crate::rows::{Planned, Rows, PLACES};
+use crate::surface::rows::{Planned, Rows, PLACES};
 
 /// A row's earliest unfinished job, by its place in the list, and the ticks it has executed.
 #[derive(Clone, Copy, Default)]
@@ -34,7 +34,8 @@ pub fn finishes(rows: &Rows, plan: &[Planned; PLACES], jobs: &[u32], out: &mut [
         while coming < count && release(coming) <= now {
             coming += 1;
         }
-        let locked = running.filter(|&at| heads[at].executed > rows.row[row_of[at]].c - u64::from(plan[row_of[at]].length));
+        let locked =
+            running.filter(|&at| heads[at].executed > rows.row[row_of[at]].c - u64::from(plan[row_of[at]].length));
         let picked = locked.or_else(|| heads[..rows.n].iter().position(|head| head.job < coming));
         let Some(at) = picked else {
             now = release(coming);

@@ -1,8 +1,8 @@
 //! The choice of ranks and lengths: unplaced rows as one 32-bit set, the length bisected, a row tried only if it can win.
 
-use crate::answer::Refusal;
 use crate::response::{all, least_idle, Level};
-use crate::rows::{Planned, Rows, PLACES};
+use crate::surface::answer::Refusal;
+use crate::surface::rows::{Planned, Rows, PLACES};
 
 /// The row found best so far at a rank.
 #[derive(Clone, Copy)]

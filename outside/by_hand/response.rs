@@ -1,6 +1,6 @@
 //! Responses by fixed-point iteration from proved lower bounds, over rows held as a 32-bit set.
 
-use crate::rows::{Planned, Row, Rows, HORIZON, PLACES};
+use crate::surface::rows::{Planned, Row, Rows, HORIZON, PLACES};
 
 fn sum(rows: &Rows, mut set: u32, of: impl Fn(&Row) -> u64) -> u64 {
     let mut total = 0;

@@ -1,7 +1,7 @@
 //! A text sheet read in one pass: each step takes one more part of the text or says where the text went wrong.
 
-use crate::answer::Refusal;
-use crate::rows::{MOST, PLACES};
+use super::answer::Refusal;
+use super::rows::{MOST, PLACES};
 
 /// What is left to read, by its place.
 struct Cursor<'a> {

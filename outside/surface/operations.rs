@@ -2,8 +2,9 @@
 
 use core::slice::{from_raw_parts, from_raw_parts_mut};
 
-use crate::answer::{Answer, Refusal};
-use crate::{checks, page, play, response, search, sheet};
+use super::answer::{Answer, Refusal};
+use super::{checks, page, sheet};
+use crate::{play, response, search};
 
 fn plan(table: &[u32], out: &mut [u32]) -> Result<u64, Refusal> {
     let rows = checks::table(table)?;
