@@ -59,7 +59,9 @@ impl Judge {
             output[..front.len()].copy_from_slice(front);
         }
         if (reply.number, reply.place, reply.value) != answer || reply.slices != slices || !reply.margins_kept {
-            self.fault(|| format!("{}\n  expected {answer:?} {}\n  answered {}", show(&call), all(&slices), told(&reply)));
+            self.fault(|| {
+                format!("{}\n  expected {answer:?} {}\n  answered {}", show(&call), all(&slices), told(&reply))
+            });
             return None;
         }
         expected.ok()
@@ -122,21 +124,33 @@ impl Judge {
         Some(self.hold(Call { operation: Operation::Fit, slices, number: room }, false, expected)?.0)
     }
 
-    /// The library's own plan, for tables too large for the second planner's search; the slices are held all the same.
-    pub fn plan_alone(&mut self, table: &[u32]) -> Answer<Vec<u32>> {
-        let call = Call { operation: Operation::Plan, slices: vec![bytes(table), self.output(4 * table.len())], number: 0 };
+    /// The library's own answer, for inputs too large for the second planner; the slices are held all the same. The
+    /// output is the last slice, and the answer fills it.
+    fn alone(&mut self, call: Call) -> Answer<Vec<u32>> {
         let reply = self.ask(&call);
         let given = reply.number == 0;
-        let kept = reply.slices[0] == call.slices[0] && reply.margins_kept && (given || reply.slices[1] == call.slices[1]);
-        let counted = reply.value == if given { table.len() as u64 } else { 0 };
-        if !kept || !counted {
+        let inputs = call.slices.len() - 1;
+        let output = &reply.slices[inputs];
+        let kept = reply.slices[..inputs] == call.slices[..inputs] && (given || *output == call.slices[inputs]);
+        let value = if given { output.len() as u64 / 4 } else { 0 };
+        if !kept || !reply.margins_kept || reply.value != value {
             self.fault(|| format!("{}\n  answered {}", show(&call), told(&reply)));
         }
         if given {
-            Ok(numbers(&reply.slices[1]))
+            Ok(numbers(output))
         } else {
             Err(Refusal { number: reply.number as u32, place: reply.place as u32 })
         }
+    }
+
+    pub fn plan_alone(&mut self, table: &[u32]) -> Answer<Vec<u32>> {
+        let slices = vec![bytes(table), self.output(4 * table.len())];
+        self.alone(Call { operation: Operation::Plan, slices, number: 0 })
+    }
+
+    pub fn play_alone(&mut self, table: &[u32], plan: &[u32], jobs: &[u32]) -> Answer<Vec<u32>> {
+        let slices = vec![bytes(table), bytes(plan), bytes(jobs), self.output(4 * jobs.len() / 3)];
+        self.alone(Call { operation: Operation::Play, slices, number: 0 })
     }
 }
 

@@ -8,7 +8,7 @@ use second::{busy_period, Level, Placed, Refusal, Row};
 const M: u64 = 1_000_000;
 
 /// Rows with spacings from `least` to M that share about `percent` of the processor, and deadlines that are mostly tight.
-fn wide_table(random: &mut Random, rows: usize, least: u64, percent: u64) -> Vec<u32> {
+pub fn wide_table(random: &mut Random, rows: usize, least: u64, percent: u64) -> Vec<u32> {
     let row = |_| {
         let t = random.from_to(least, M);
         let about = (t * percent / 100 / rows as u64).max(1);
@@ -59,7 +59,9 @@ fn plan(judge: &mut Judge, table: &[u32], known: &[u32]) {
         judge.counts.add("large: some plan is known to pass");
     }
     if !right {
-        judge.fault(|| format!("the plan of {table:?} is not the one chosen, {known:?} passing or not: {some_plan_passes}"));
+        judge.fault(|| {
+            format!("the plan of {table:?} is not the one chosen, {known:?} passing or not: {some_plan_passes}")
+        });
     }
 }
 

@@ -11,6 +11,7 @@ mod figures;
 mod judge;
 mod large;
 mod make;
+mod reaching;
 mod traits;
 
 use common::bridge::{Bridge, Operation};
@@ -29,7 +30,7 @@ const REFUSALS: [(Operation, &[u32]); 7] = [
     (Operation::Fit, &[1, 2]),
 ];
 
-const NOTABLE: [&str; 18] = [
+const NOTABLE: [&str; 22] = [
     "Verdict yes",
     "Verdict no",
     "table: D above T",
@@ -48,6 +49,10 @@ const NOTABLE: [&str; 18] = [
     "large: overloaded tables",
     "large: some plan is known to pass",
     "large: runs of 4,096 jobs",
+    "reaching: blocking 0",
+    "reaching: blocking above 0",
+    "reaching: by a job after the first",
+    "reaching: lists of more than 1,000 jobs",
 ];
 
 fn asked_for() -> impl Iterator<Item = String> {
@@ -81,6 +86,9 @@ fn main() -> std::io::Result<()> {
     timed("large overloads", &mut |judge| large::overloads(judge, &mut random, 500));
     timed("large runs", &mut |judge| large::runs(judge, &mut random, 1_000));
     timed("the longest run", &mut |judge| large::longest_run(judge, &mut random));
+    timed("reaching lists of document 01's tables", &mut reaching::figures);
+    timed("reaching lists", &mut |judge| reaching::tables(judge, &mut random, 3_000));
+    timed("reaching lists of large tables", &mut |judge| reaching::large_tables(judge, &mut random, 1_500));
     judge.counts.print();
     let missing = judge.counts.missing();
     for kind in &missing {

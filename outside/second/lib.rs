@@ -11,11 +11,12 @@ mod sheet;
 mod stretches;
 mod test;
 
+pub use checks::job_fault;
 pub use choice::{all_plans, Placed};
 pub use kernel::{finishes, Job};
 pub use test::{busy_period, responses, Level, Row};
 
-use checks::{job_fault, plan_fault, range_fault, shape_fault};
+use checks::{plan_fault, range_fault, shape_fault};
 
 pub const MOST: u64 = 1_000_000;
 pub const HORIZON: u64 = 1_000_000;
