@@ -1,4 +1,4 @@
--- The numbers below m that pass a test, listed in order, and sums over them; pairs of a tick and a row as numbers; multiples. Assumes nothing.
+-- The numbers below m that pass a test, listed in order, and sums over them; pairs of a tick and a row as numbers; multiples.
 use Prim.Native.Nat.{ℕ, zero, suc, _+_, _*_, _/_, _%_, _≤_, _<_}
 use mathlib.Core.Path.{_≡_, refl, ap, sym, _∙_}
 use mathlib.Core.Bool.{Bool, true, false}

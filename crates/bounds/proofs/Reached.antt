@@ -1,5 +1,5 @@
 -- Demand 3, the bound is reached: a list in which a job of the row takes exactly its response. At t₀ the level is released, while a job below
--- has the whole blocking still to run. Assumes nothing.
+-- has the whole blocking still to run.
 use Prim.Native.Nat.{ℕ, zero, suc, _+_, _-_, _*_, _≤_, _<_}
 use mathlib.Core.Path.{_≡_, refl, ap, sym, _∙_, subst}
 use mathlib.Core.Bool.{Bool, true, false, _&&_}
@@ -14,11 +14,11 @@ use Rattle.counting.proofs.Sum.{given-yes, given-no, sum-le, sum-add, sum-delta
 use Rattle.tables.specs.Table.{Table, Sound}
 use Rattle.tables.specs.Plan.{Plan, WellFormed}
 use Rattle.tables.specs.Jobs.{Jobs, Lawful}
-use Rattle.response.specs.Test.{before, upto, load, Start, above, blocking, ResponseOf}
-use Rattle.response.proofs.Load.{Positive, sound-positive, load-upto, load-part}
-use Rattle.response.proofs.Sides.{start-side-whole}
-use Rattle.response.proofs.Starts.{start-prefix, start-after}
-use Rattle.response.proofs.Plans.{blocking-is, longest-cases}
+use Rattle.test.specs.Test.{before, upto, load, Start, above, blocking, ResponseOf}
+use Rattle.test.proofs.Load.{Positive, sound-positive, load-upto, load-part}
+use Rattle.test.proofs.Sides.{start-side-whole}
+use Rattle.test.proofs.Starts.{start-prefix, start-after}
+use Rattle.test.proofs.Plans.{blocking-is, longest-cases}
 use Rattle.kernel.specs.Rule.{job, locked, executed, Finishes}
 use Rattle.kernel.proofs.Rule as R
 use Rattle.kernel.proofs.Executed as X

@@ -1,5 +1,5 @@
 -- Demand 3, the upper bound: under the dispatch rule each job of a lawful list has executed its run by its release and its row's response.
--- The level of the job is settled last at t₀; from there on every tick is busy with the level until the job finishes. Assumes nothing.
+-- The level of the job is settled last at t₀; from there on every tick is busy with the level until the job finishes.
 use Prim.Native.Nat.{ℕ, suc, _+_, _-_, _*_, _/_, _≤_, _<_}
 use mathlib.Core.Path.{_≡_, refl, ap, sym}
 use mathlib.Core.Bool.{Bool, true, _&&_}
@@ -15,11 +15,11 @@ use Rattle.counting.proofs.Sum.{given-yes, given-no, without-elim, sum-le, sum-
 use Rattle.tables.specs.Table.{Table, Sound}
 use Rattle.tables.specs.Plan.{Plan, WellFormed}
 use Rattle.tables.specs.Jobs.{Jobs, Lawful}
-use Rattle.response.specs.Test.{before, upto, load, Active, jobs, Start, above, blocking, ResponseOf}
-use Rattle.response.proofs.Load.{Positive, sound-positive, load-mono, load-upto, load-sub}
-use Rattle.response.proofs.Sides.{active-side-is, active-side-level, start-side-whole}
-use Rattle.response.proofs.Starts.{start-exists}
-use Rattle.response.proofs.Plans.{blocking-is, longest-ge}
+use Rattle.test.specs.Test.{before, upto, load, Active, jobs, Start, above, blocking, ResponseOf}
+use Rattle.test.proofs.Load.{Positive, sound-positive, load-mono, load-upto, load-sub}
+use Rattle.test.proofs.Sides.{active-side-is, active-side-level, start-side-whole}
+use Rattle.test.proofs.Starts.{start-exists}
+use Rattle.test.proofs.Plans.{blocking-is, longest-ge}
 use Rattle.kernel.specs.Rule.{locked, executed}
 use Rattle.kernel.proofs.Rule as R
 use Rattle.kernel.proofs.Executed as X

@@ -1,4 +1,4 @@
--- How much the jobs that are released in a window can ask for: no more than the load of their rows. Assumes nothing.
+-- How much the jobs that are released in a window can ask for: no more than the load of their rows.
 use Prim.Native.Nat.{ℕ, _+_, _-_, _*_, _/_, _≤_, _<_}
 use mathlib.Core.Path.{_≡_, refl, ap, sym, _∙_}
 use mathlib.Core.Bool.{Bool, true, false, _&&_}
@@ -13,8 +13,8 @@ use Rattle.counting.proofs.Up.{div-mono}
 use Rattle.counting.proofs.Sum.{given-yes, given-no, sum-le, sum-ext, sum-zero, sum-mul, sum-swap, count-all}
 use Rattle.tables.specs.Table.{Table}
 use Rattle.tables.specs.Jobs.{Jobs, Lawful}
-use Rattle.response.specs.Test.{upto, load}
-use Rattle.response.proofs.Load.{Positive}
+use Rattle.test.specs.Test.{upto, load}
+use Rattle.test.proofs.Load.{Positive}
 use Rattle.kernel.proofs.Level.{sum-once}
 
 module _ (tb : Table) (js : Jobs) (lawful : Lawful tb js) (pos : Positive tb) (t₀ : ℕ) where

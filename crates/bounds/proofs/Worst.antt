@@ -1,5 +1,5 @@
 -- The list in which a level asks for the most: the rows of rank r and higher are released at t₀ and from then on as often as they may, and
--- the opening rows, of lower rank, once at 0; each job has its worst run. Assumes nothing.
+-- the opening rows, of lower rank, once at 0; each job has its worst run.
 use Prim.Native.Nat.{ℕ, _+_, _-_, _*_, _/_, _%_, _≤_, _<_}
 use mathlib.Core.Path.{_≡_, refl, ap, sym, _∙_, subst}
 use mathlib.Core.Bool.{Bool, true, _&&_, _||_}
@@ -16,8 +16,8 @@ use Rattle.counting.proofs.Sum.{given-yes, given-no, sum-le, sum-mul, sum-more,
 use Rattle.tables.specs.Table.{Table}
 use Rattle.tables.specs.Plan.{Plan}
 use Rattle.tables.specs.Jobs.{Jobs, Lawful}
-use Rattle.response.specs.Test.{before, load}
-use Rattle.response.proofs.Load.{Positive}
+use Rattle.test.specs.Test.{before, load}
+use Rattle.test.proofs.Load.{Positive}
 use Rattle.kernel.proofs.Rule.{or-cases, or-left, or-right}
 use Rattle.bounds.proofs.Listing.{size, nth, nth-is, nth-rises, nth-has, sum-keep, sum-pairs, multiples, multiples-apart}
 

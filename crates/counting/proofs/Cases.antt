@@ -1,4 +1,4 @@
--- Case splits in continuation form: on a test, on an order, on an equation of numbers. Assumes nothing.
+-- Case splits in continuation form: on a test, on an order, on an equation of numbers.
 use Prim.Native.Nat.{ℕ, _≤_, _<_}
 use mathlib.Core.Path.{_≡_, refl, sym, ap, _∙_}
 use mathlib.Core.Bool.{Bool, true, false, _&&_}

@@ -1,4 +1,4 @@
--- Laws of the least number of a kind, and of the least fixed point of a function that never falls: bound, below, compare, iterate. Assumes nothing.
+-- Laws of the least number of a kind, and of the least fixed point of a function that never falls: bound, below, compare, iterate.
 use Prim.Native.Nat.{ℕ, zero, suc, _+_, _-_, _≤_, _<_}
 use mathlib.Core.Path.{_≡_, refl, ap, sym, _∙_}
 use mathlib.Core.Bool.{Bool, true, false}

@@ -1,4 +1,4 @@
--- Searches that compute: the first number at which a test passes, and whether it passes at all numbers below n. Assumes nothing.
+-- Searches that compute: the first number at which a test passes, and whether it passes at all numbers below n.
 use Prim.Native.Nat.{ℕ, zero, suc, _+_, _≤_, _<_}
 use mathlib.Core.Path.{_≡_, refl, sym, ap, _∙_}
 use mathlib.Core.Bool.{Bool, true, false}

@@ -1,4 +1,4 @@
--- Laws of sums, largest values and counts over the numbers below n. Assumes nothing.
+-- Laws of sums, largest values and counts over the numbers below n.
 use Prim.Native.Nat.{ℕ, zero, suc, _+_, _-_, _*_, max, _≤_, _<_}
 use mathlib.Core.Path.{_≡_, refl, ap, sym, _∙_, subst, fun-ext}
 use mathlib.Core.Bool.{Bool, true, false, _&&_, not}

@@ -1,4 +1,4 @@
--- Laws of rounding up: it is the least m with t ≤ m · d, it never falls as t grows and never rises as d grows. Assumes nothing.
+-- Laws of rounding up: it is the least m with t ≤ m · d, it never falls as t grows and never rises as d grows.
 use Prim.Native.Nat.{ℕ, zero, suc, _+_, _-_, _*_, _/_, _%_, _≤_, _<_}
 use mathlib.Core.Path.{_≡_, refl, ap, sym, _∙_}
 use native.Mathlib.Omega.{arith}

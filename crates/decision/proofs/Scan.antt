@@ -1,4 +1,4 @@
--- The scan over the rows for the foremost one: what is kept of the rows before row i. Assumes nothing.
+-- The scan over the rows for the foremost one: what is kept of the rows before row i.
 use Prim.Native.Nat.{ℕ, _+_, _≤_, _<_}
 use mathlib.Core.Path.{_≡_, refl}
 use mathlib.Core.Bool.{Bool, true, false, not}
@@ -11,7 +11,7 @@ use Rattle.counting.proofs.Cases.{by-eq}
 use Rattle.tables.specs.Table.{Table}
 use Rattle.tables.specs.Plan.{Plan}
 use Rattle.kernel.specs.Rule.{locked}
-use Rattle.decision.specs.Decision.{urgency, Foremost}
+use Rattle.decision.specs.inside.Decision.{urgency, Foremost}
 
 -- a row comes at its rank at the latest
 pub urgency-rank : (tb : Table) (p : Plan) (i e : ℕ) → urgency tb p i e ≤ p .rank i

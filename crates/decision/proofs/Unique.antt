@@ -1,4 +1,4 @@
--- Any two results that the promise of a function of this crate allows are equal; `held` and `urgency_of` promise an equation. Assumes nothing.
+-- Any two results that the promise of a function of this crate allows are equal; `held` and `urgency_of` promise an equation.
 use Prim.Native.Nat.{ℕ, _<_}
 use mathlib.Core.Path.{_≡_, sym, _∙_}
 use mathlib.Core.Bool.{Bool}
@@ -11,7 +11,7 @@ use Rattle.counting.proofs.Cases.{by-le}
 use Rattle.tables.specs.Table.{Table}
 use Rattle.tables.specs.Plan.{Plan}
 use Rattle.tables.specs.Jobs.{Jobs}
-use Rattle.decision.specs.Decision.{Following, Heads, Released, Foremost, Stretch}
+use Rattle.decision.specs.inside.Decision.{Following, Heads, Released, Foremost, Stretch}
 
 -- of a kind of numbers none of which stands below another there is one at most
 one-at-most : {E : ℕ → Type 0} → ((a b : ℕ) → E a → E b → a < b → ⊥) → (a b : ℕ) → E a → E b → a ≡ b

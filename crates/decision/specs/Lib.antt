@@ -1,2 +1,2 @@
 -- The definitions of the crate `decision`.
-pub mod Decision
+pub mod inside

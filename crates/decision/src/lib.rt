@@ -6,7 +6,7 @@ ghost use Rattle.tables.specs.Table.{tableOf, Sound, most, most-rows};
 ghost use Rattle.tables.specs.Plan.{planOf, plan-width, WellFormed};
 ghost use Rattle.tables.specs.Jobs.{jobsOf};
 ghost use Rattle.kernel.specs.Rule.{locked};
-ghost use Rattle.decision.specs.Decision.{Following, Heads, Released, Foremost, Stretch, Ruled, urgency};
+ghost use Rattle.decision.specs.inside.Decision.{Following, Heads, Released, Foremost, Stretch, Ruled, urgency};
 use tables::JOB_WIDTH;
 use tables::PLAN_WIDTH;
 use tables::ROW_WIDTH;

@@ -1,4 +1,4 @@
--- Demand 3 in the caller's words, proved. Assumes nothing.
+-- Demand 3 in the caller's words, proved.
 use Prim.Native.Nat.{ℕ, _+_, _≤_, _<_}
 use mathlib.Core.Path.{refl}
 use mathlib.Core.Logic.{⊎-elim}
@@ -9,11 +9,11 @@ use Rattle.tables.specs.Table.{tableOf}
 use Rattle.tables.specs.Plan.{planOf}
 use Rattle.tables.specs.Jobs.{jobsOf}
 use Rattle.tables.specs.Refusal.{Result}
-use Rattle.response.specs.Test.{ResponseOf}
-use Rattle.response.proofs.Load.{sound-positive}
-use Rattle.response.proofs.Plans.{plan-alike}
-use Rattle.ranks.specs.Answers.{plannedOf, responseIn}
-use Rattle.ranks.proofs.Complete.{chosen-well-formed}
+use Rattle.test.specs.Test.{ResponseOf}
+use Rattle.test.proofs.Load.{sound-positive}
+use Rattle.test.proofs.Plans.{plan-alike}
+use Rattle.choice.specs.Answers.{plannedOf, responseIn}
+use Rattle.choice.proofs.Complete.{chosen-well-formed}
 use Rattle.kernel.proofs.Finishing.{finish-least}
 use Rattle.bounds.proofs.Upper.{in-time}
 use Rattle.demands.specs.Callers.{TimesAreExact, PlanIsExact, VerdictDecides, TimesHoldInPlay, PlanHoldsInPlay, VerdictHoldsInPlay}

@@ -1,4 +1,4 @@
--- The rank and length columns of a planned table, as a slice of their own. Assumes nothing.
+-- The rank and length columns of a planned table, as a slice of their own.
 use Prim.Native.Nat.{ℕ, zero, suc, _+_, _*_, _/_, _%_, _<_}
 use mathlib.Core.Path.{_≡_, refl, ap, sym, _∙_}
 use mathlib.Core.Bool.{cond}
@@ -9,7 +9,7 @@ use lib.ListN.{length, getD}
 use borrow.Author.Tests.{eq-eqb, ne-eqb}
 use Rattle.tables.specs.Table.{Table}
 use Rattle.tables.specs.Plan.{Plan, plan-width}
-use Rattle.ranks.specs.Answers.{plannedOf}
+use Rattle.choice.specs.Answers.{plannedOf}
 use Rattle.demands.specs.Demand2.{Columns}
 
 -- f 0, .., f (m - 1)

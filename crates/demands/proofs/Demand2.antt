@@ -1,4 +1,4 @@
--- Demand 2 is met: the theorems of the statements in specs/Demand2.antt. Assumes nothing.
+-- Demand 2 is met: the theorems of the statements in specs/Demand2.antt.
 use Prim.Native.Nat.{ℕ, _≤_, _<_}
 use mathlib.Core.Path.{_≡_, sym, _∙_}
 use mathlib.Core.Logic.{⊎-elim}
@@ -10,14 +10,14 @@ use Rattle.tables.specs.Plan.{Plan, WellFormed, planOf}
 use Rattle.tables.specs.Refusal.{Clear, Result}
 use Rattle.tables.specs.Checks.{shape, range}
 use Rattle.tables.proofs.Clear.{clear-of-sound, plan-of-clear, clear-of-plan}
-use Rattle.response.specs.Test.{horizon, BusyWithin, ResponseOf, Passes}
-use Rattle.response.specs.Answers.{Bounded, TimesAnswer, VerdictAnswer}
-use Rattle.response.proofs.Load.{Positive, sound-positive}
-use Rattle.response.proofs.Response.{response-unique}
-use Rattle.response.proofs.Plans.{plan-alike, plan-bounded}
-use Rattle.ranks.specs.Choice.{Stopped}
-use Rattle.ranks.specs.Answers.{plannedOf, responseIn}
-use Rattle.ranks.proofs.Complete.{chosen-well-formed, chosen-passes, chosen-shortest, stopped-no-plan}
+use Rattle.test.specs.Test.{horizon, BusyWithin, ResponseOf, Passes}
+use Rattle.test.specs.Answers.{Bounded, TimesAnswer, VerdictAnswer}
+use Rattle.test.proofs.Load.{Positive, sound-positive}
+use Rattle.test.proofs.Response.{response-unique}
+use Rattle.test.proofs.Plans.{plan-alike, plan-bounded}
+use Rattle.choice.specs.Choice.{Stopped}
+use Rattle.choice.specs.Answers.{plannedOf, responseIn}
+use Rattle.choice.proofs.Complete.{chosen-well-formed, chosen-passes, chosen-shortest, stopped-no-plan}
 use Rattle.demands.specs.Demand2.{TimesAreTheTests, PlannedAreTheTests, Accepted, RefusedExactlyIfNonePasses, Given, ShortestAtEachRank, Columns, PlanTimesVerdictAgree}
 use Rattle.demands.proofs.Gave.{PlanGave, plan-gave, times-gave, under-busy}
 use Rattle.demands.proofs.Columns.{columns-exist}

@@ -1,12 +1,12 @@
--- Demand 3, proved. Assumes nothing.
+-- Demand 3, proved.
 use Prim.Native.Nat.{_+_}
 use mathlib.Core.Path.{_≡_, sym, subst}
 use native.Mathlib.Omega.{arith}
 use Rattle.tables.specs.Table.{Table, Sound}
 use Rattle.tables.specs.Plan.{Plan, WellFormed}
-use Rattle.response.specs.Test.{ResponseOf, Passes, above, blocking}
-use Rattle.response.proofs.Response.{response-unique}
-use Rattle.response.proofs.Plans.{plan-response}
+use Rattle.test.specs.Test.{ResponseOf, Passes, above, blocking}
+use Rattle.test.proofs.Response.{response-unique}
+use Rattle.test.proofs.Plans.{plan-response}
 use Rattle.kernel.specs.Rule.{executed}
 use Rattle.kernel.proofs.Executed.{executed-mono, executed-run}
 use Rattle.kernel.proofs.Finishing.{finish-least}

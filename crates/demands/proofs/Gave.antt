@@ -1,4 +1,4 @@
--- What is known of an operation that answered with the number 0: its input came past every check, and it gave what it promises. Assumes nothing.
+-- What is known of an operation that answered with the number 0: its input came past every check, and it gave what it promises.
 use Prim.Native.Nat.{ℕ, _*_, _≤_}
 use mathlib.Core.Path.{_≡_, refl}
 use mathlib.Core.List.{List, [], _∷_}
@@ -11,9 +11,9 @@ use Rattle.tables.specs.Refusal.{Clear, Result}
 use Rattle.tables.specs.Checks.{shape, range, plan-form, jobs-shape, job-rules, room}
 use Rattle.tables.proofs.Answered.{granted}
 use Rattle.tables.proofs.Clear.{sound-of-clear, plan-of-clear, jobs-of-clear}
-use Rattle.response.specs.Test.{BusyWithin}
-use Rattle.response.specs.Answers.{no-busy, TimesAnswer, TimesGiven, VerdictAnswer, VerdictGiven}
-use Rattle.ranks.specs.Answers.{planned-width, no-plan, PlanAnswer, PlanGiven}
+use Rattle.test.specs.Test.{BusyWithin}
+use Rattle.test.specs.Answers.{no-busy, TimesAnswer, TimesGiven, VerdictAnswer, VerdictGiven}
+use Rattle.choice.specs.Answers.{planned-width, no-plan, PlanAnswer, PlanGiven}
 use Rattle.kernel.specs.Answers.{PlayAnswer, PlayGiven}
 
 -- past the checks of the table

@@ -4,3 +4,4 @@ pub mod Columns
 pub mod Demand2
 pub mod Demand3
 pub mod Callers
+pub mod Versions

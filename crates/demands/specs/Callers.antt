@@ -9,8 +9,8 @@ use Rattle.tables.specs.Table.{tableOf}
 use Rattle.tables.specs.Plan.{planOf}
 use Rattle.tables.specs.Jobs.{jobsOf}
 use Rattle.tables.specs.Refusal.{Result}
-use Rattle.response.specs.Answers.{TimesAnswer, VerdictAnswer}
-use Rattle.ranks.specs.Answers.{PlanAnswer, plannedOf, responseIn}
+use Rattle.test.specs.Answers.{TimesAnswer, VerdictAnswer}
+use Rattle.choice.specs.Answers.{PlanAnswer, plannedOf, responseIn}
 use Rattle.kernel.specs.Answers.{PlayAnswer}
 use Rattle.demands.specs.Demand2.{Columns}
 use Rattle.demands.specs.Demand3.{NeverLonger, TakesExactly, MeetsDeadlines}

@@ -10,10 +10,10 @@ use Rattle.tables.specs.Table.{Table, Sound, tableOf, row-width}
 use Rattle.tables.specs.Plan.{Plan, WellFormed, planOf, plan-width, cap}
 use Rattle.tables.specs.Refusal.{Clear, Result}
 use Rattle.tables.specs.Checks.{plan-form}
-use Rattle.response.specs.Test.{horizon, BusyWithin, Response, ResponseOf, blocking, Passes}
-use Rattle.response.specs.Answers.{TimesAnswer, VerdictAnswer}
-use Rattle.ranks.specs.Choice.{unplaced}
-use Rattle.ranks.specs.Answers.{PlanAnswer, planned-width, plannedOf, responseIn}
+use Rattle.test.specs.Test.{horizon, BusyWithin, Response, ResponseOf, blocking, Passes}
+use Rattle.test.specs.Answers.{TimesAnswer, VerdictAnswer}
+use Rattle.choice.specs.Choice.{unplaced}
+use Rattle.choice.specs.Answers.{PlanAnswer, planned-width, plannedOf, responseIn}
 
 -- "a sound table": whole rows of one, a busy period of at most H, and three places of the output for each row
 pub record Plannable (xs out : List ℕ) : Type 0 where

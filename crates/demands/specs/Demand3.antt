@@ -5,7 +5,7 @@ use mathlib.Core.Path.{_≡_}
 use Rattle.tables.specs.Table.{Table, Sound}
 use Rattle.tables.specs.Plan.{Plan, WellFormed}
 use Rattle.tables.specs.Jobs.{Jobs, Lawful}
-use Rattle.response.specs.Test.{BusyWithin, ResponseOf, Passes}
+use Rattle.test.specs.Test.{BusyWithin, ResponseOf, Passes}
 use Rattle.kernel.specs.Rule.{executed, Finishes}
 
 -- no job of row i takes longer than R: in every lawful list, of any number of jobs, at any ticks and in any order,

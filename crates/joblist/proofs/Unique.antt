@@ -1,13 +1,13 @@
--- Any two results that the promise of a function of this crate allows are equal. Assumes nothing.
+-- Any two results that the promise of a function of this crate allows are equal.
 use Prim.Native.Nat.{ℕ}
 use mathlib.Core.Path.{_≡_, refl, sym, ap, _∙_}
 use mathlib.Core.Bool.{Bool, true, false}
 use mathlib.Core.List.{List}
 use Rattle.tables.specs.Table.{Table}
 use Rattle.tables.specs.Jobs.{Jobs}
-use Rattle.tables.specs.Checked.{Says}
+use Rattle.tables.specs.inside.Checked.{Says}
 use Rattle.tables.proofs.Answered.{job-rules-place}
-use Rattle.joblist.specs.Listed.{KeepsAlone, ListSaid}
+use Rattle.joblist.specs.inside.Listed.{KeepsAlone, ListSaid}
 use Rattle.joblist.specs.declared.Listed.{Listed}
 use Rattle.joblist.specs.declared.Listed.the-variants.{WellFormed, Shape, AtFault}
 

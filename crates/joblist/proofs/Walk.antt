@@ -1,4 +1,4 @@
--- The walk along a job list: the last release, and each row's last release with its spacing, show a fault against any earlier job. Assumes nothing.
+-- The walk along a job list: the last release, and each row's last release with its spacing, show a fault against any earlier job.
 use Prim.Native.Nat.{ℕ, _+_, _≤_, _<_}
 use mathlib.Core.Path.{_≡_, refl, sym, ap}
 use mathlib.Core.Logic.{_⊎_, inl, inr, ⊎-elim}
@@ -12,7 +12,7 @@ use Rattle.tables.specs.Jobs.{Jobs, jobsOf}
 use Rattle.tables.specs.Refusal.{Clear}
 use Rattle.tables.specs.Checks.{BreaksAlone, BreaksAgainst, job-rules}
 use Rattle.tables.proofs.Rows.{holds-none}
-use Rattle.joblist.specs.Listed.{KeepsAlone}
+use Rattle.joblist.specs.inside.Listed.{KeepsAlone}
 
 -- job k breaks a rule, "by itself or against an earlier job"
 abbrev pub AtFault : Table → Jobs → ℕ → Type 0

@@ -1,2 +1,2 @@
 -- The definitions of the crate `joblist`.
-pub mod Listed
+pub mod inside

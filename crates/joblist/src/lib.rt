@@ -4,8 +4,8 @@ ghost use Prim.Native.Nat.{ℕ, _+_, _*_, _≤_, _<_};
 ghost use lib.ListN.{length};
 ghost use Rattle.tables.specs.Table.{tableOf, row-width, most-rows};
 ghost use Rattle.tables.specs.Jobs.{jobsOf};
-ghost use Rattle.tables.specs.Checked.{Says};
-ghost use Rattle.joblist.specs.Listed.{KeepsAlone, ListSaid};
+ghost use Rattle.tables.specs.inside.Checked.{Says};
+ghost use Rattle.joblist.specs.inside.Listed.{KeepsAlone, ListSaid};
 use tables::JOB_WIDTH;
 use tables::ROW_WIDTH;
 

@@ -1,4 +1,4 @@
--- Laws of the ticks that jobs have executed under the dispatch rule, over any job list. Assumes nothing.
+-- Laws of the ticks that jobs have executed under the dispatch rule, over any job list.
 use Prim.Native.Nat.{ℕ, zero, suc, _+_, _-_, _≤_, _<_}
 use mathlib.Core.Path.{_≡_, refl, ap, _∙_, subst}
 use mathlib.Core.Bool.{true, false}

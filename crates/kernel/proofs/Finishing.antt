@@ -1,4 +1,4 @@
--- Laws of finish ticks: there is one at most, and every job of a list has one, since no tick is idle while a job is pending. Assumes nothing.
+-- Laws of finish ticks: there is one at most, and every job of a list has one, since no tick is idle while a job is pending.
 use Prim.Native.Nat.{ℕ, zero, suc, _+_, _-_, _*_, _≤_, _<_}
 use mathlib.Core.Path.{_≡_, refl, ap, _∙_}
 use mathlib.Core.Bool.{Bool}

@@ -1,5 +1,5 @@
 -- What the jobs of a level, of rank r or higher, and the jobs below it execute under the dispatch rule: the last tick at which the level was
--- settled, the ticks that are busy with it since, and the one job below that may still run in them. Assumes nothing.
+-- settled, the ticks that are busy with it since, and the one job below that may still run in them.
 use Prim.Native.Nat.{ℕ, zero, suc, _+_, _-_, _≤_, _<_}
 use mathlib.Core.Path.{_≡_, refl, ap, sym, _∙_, subst}
 use mathlib.Core.Bool.{Bool, true, false, _&&_}

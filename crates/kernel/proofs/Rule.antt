@@ -1,5 +1,5 @@
 -- Laws of one tick of the dispatch rule: its cases (a), (b), (c) as statements, one of which holds of what is picked; and that the position
--- of a job in a lawful list never decides. Assumes nothing.
+-- of a job in a lawful list never decides.
 use Prim.Native.Nat.{ℕ, zero, suc, _≤_, _<_}
 use mathlib.Core.Path.{_≡_, refl, ap, sym, _∙_, subst}
 use mathlib.Core.Bool.{Bool, true, false, _&&_, _||_}

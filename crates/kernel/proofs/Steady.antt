@@ -1,5 +1,5 @@
 -- The job that runs goes on running until it finishes or, where it is not locked, until a release: what a play from decision to decision
--- rests on. Assumes nothing.
+-- rests on.
 use Prim.Native.Nat.{ℕ, zero, suc, _+_, _≤_, _<_}
 use mathlib.Core.Path.{_≡_, ap, sym, _∙_, subst}
 use mathlib.Core.Bool.{true}

@@ -1,4 +1,4 @@
--- The laws of marks: the first mark by trailing zeros, how many there are, one less, one more, all of n. Each by induction on the digits. Assumes nothing.
+-- The laws of marks: the first mark by trailing zeros, how many there are, one less, one more, all of n. Each by induction on the digits.
 use Prim.Native.Nat.{ℕ, zero, suc, _+_, _-_, _*_, _/_, _%_, _^_, _≤_, _<_, zero-le, suc-le-suc}
 use mathlib.Core.Path.{_≡_, refl, sym, ap, _∙_, subst, fun-ext}
 use mathlib.Core.Bool.{Bool, true, false, or-false, or-true}
@@ -11,7 +11,7 @@ use borrow.Author.Tests.{eqb-true, eqb-false, eq-eqb, ne-eqb, lt-ltb, le-ltb}
 use Rattle.counting.specs.Sum.{given, sum, count}
 use Rattle.counting.proofs.Cases.{by-bool, by-eq, by-le, not-both}
 use Rattle.counting.proofs.Sum.{without-same, without-other, given-no, sum-zero, sum-ext, sum-front, count-without, count-all}
-use Rattle.marks.specs.Marks.{marked, Whole, Next, Less, More}
+use Rattle.marks.specs.inside.Marks.{marked, Whole, Next, Less, More}
 
 -- the lowest digit is 0 or 1
 digit : {P : Type 0} (s : ℕ) → (s % 2 ≡ 0 → P) → (s % 2 ≡ 1 → P) → P

@@ -1,10 +1,10 @@
--- Any two sets and any two rows that the promise of a function of this crate allows are equal. Assumes nothing.
+-- Any two sets and any two rows that the promise of a function of this crate allows are equal.
 use Prim.Native.Nat.{ℕ, _^_, _<_}
 use mathlib.Core.Path.{_≡_, sym, ap, _∙_}
 use mathlib.Core.Bool.{Bool}
 use native.Mathlib.Omega.{arith}
 use Rattle.counting.proofs.Least.{least-unique}
-use Rattle.marks.specs.Marks.{Whole, Next, Less, More}
+use Rattle.marks.specs.inside.Marks.{Whole, Next, Less, More}
 use Rattle.marks.proofs.Marks.{same-marks}
 
 pub next-unique : {s a b : ℕ} → Next s a → Next s b → a ≡ b

@@ -1,2 +1,2 @@
 -- The definitions of the crate `marks`.
-pub mod Marks
+pub mod inside

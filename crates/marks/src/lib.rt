@@ -3,7 +3,7 @@ ghost use mathlib.Core.Path.{_≡_};
 ghost use mathlib.Core.Bool.{true, false};
 ghost use Prim.Native.Nat.{_≤_, _<_};
 ghost use Rattle.counting.specs.Sum.{count};
-ghost use Rattle.marks.specs.Marks.{marked, Whole, Next, Less, More};
+ghost use Rattle.marks.specs.inside.Marks.{marked, Whole, Next, Less, More};
 
 // All rows below n.
 pub fn whole(n: u32) -> u32

@@ -1,4 +1,4 @@
--- The answers of `plan`, case by case, from what the checks and the filling say. Assumes nothing.
+-- The answers of `plan`, case by case, from what the checks and the filling say.
 use Prim.Native.Nat.{ℕ, _+_, _*_, _≤_, _<_}
 use mathlib.Core.Path.{_≡_, refl, sym, ap, _∙_, subst}
 use mathlib.Core.Logic.{inl, inr}
@@ -12,14 +12,14 @@ use Rattle.tables.specs.Refusal.{Clear, Result}
 use Rattle.tables.specs.Checks.{shape, range, room}
 use Rattle.tables.specs.Answer.{resultOf}
 use Rattle.tables.specs.declared.Answer.the-variants.{Given, Shape, Range, Room, NoBusy, NoPlan}
-use Rattle.response.specs.Test.{BusyWithin, Response, ResponseOf, above, blocking}
-use Rattle.response.proofs.Load.{Positive, sound-positive}
-use Rattle.responses.specs.Asked.{Responses}
+use Rattle.test.specs.Test.{BusyWithin, Response, ResponseOf, above, blocking}
+use Rattle.test.proofs.Load.{Positive, sound-positive}
+use Rattle.responses.specs.inside.Asked.{Responses}
 use Rattle.responses.proofs.Same.{response-same}
-use Rattle.ranks.specs.Choice.{Chosen, Stopped}
-use Rattle.ranks.specs.Answers.{plannedOf, PlanGiven, PlanAnswer}
-use Rattle.ranks.proofs.Filled.{Same, same-agree, agree-alike, filled-same, chosen-not-stopped}
-use Rattle.plan.specs.Given.{planned, PlanRest}
+use Rattle.choice.specs.Choice.{Chosen, Stopped}
+use Rattle.choice.specs.Answers.{plannedOf, PlanGiven, PlanAnswer}
+use Rattle.choice.proofs.Filled.{Same, same-agree, agree-alike, filled-same, chosen-not-stopped}
+use Rattle.plan.specs.inside.Given.{planned, PlanRest}
 use Rattle.plan.proofs.Written.{written-whole, written-rest, written-at}
 
 -- the responses of plans that have the same ranks and lengths

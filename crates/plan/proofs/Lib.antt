@@ -2,3 +2,6 @@
 pub mod Written
 pub mod Answers
 pub mod Unique
+pub mod Timed
+pub mod Going
+pub mod FillUnique

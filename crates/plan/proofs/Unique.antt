@@ -1,4 +1,4 @@
--- Any two answers that the promise of `plan` allows are equal. Assumes nothing.
+-- Any two answers that the promise of `plan` allows are equal.
 use Prim.Native.Nat.{ℕ, _+_, _*_, _/_, _<_}
 use mathlib.Core.Path.{_≡_, sym, ap, _∙_}
 use mathlib.Core.List.{List, [], _∷_}
@@ -11,12 +11,12 @@ use Rattle.tables.specs.Checks.{shape, range, room}
 use Rattle.tables.specs.Refusal.{Result}
 use Rattle.tables.proofs.Answered.{OnePlace, answered-unique, same-rest, shape-place, range-place, room-place}
 use Rattle.tables.proofs.Clear.{sound-of-clear}
-use Rattle.response.specs.Answers.{no-busy}
-use Rattle.response.proofs.Load.{Positive, sound-positive}
-use Rattle.response.proofs.Response.{response-unique}
+use Rattle.test.specs.Answers.{no-busy}
+use Rattle.test.proofs.Load.{Positive, sound-positive}
+use Rattle.test.proofs.Response.{response-unique}
 use Rattle.times.proofs.Unique.{no-busy-place}
-use Rattle.ranks.specs.Answers.{plannedOf, responseIn, no-plan, PlanGiven, PlanAnswer}
-use Rattle.ranks.proofs.Filled.{Same, chosen-unique}
+use Rattle.choice.specs.Answers.{plannedOf, responseIn, no-plan, PlanGiven, PlanAnswer}
+use Rattle.choice.proofs.Filled.{Same, chosen-unique}
 use Rattle.plan.proofs.Answers.{response-plans}
 
 no-plan-place : (tb : Table) → OnePlace (no-plan tb)

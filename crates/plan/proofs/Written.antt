@@ -1,4 +1,4 @@
--- Laws of the planned table, as it is written part by part and as it is read row by row. Assumes nothing.
+-- Laws of the planned table, as it is written part by part and as it is read row by row.
 use Prim.Native.Nat.{ℕ, zero, suc, _+_, _*_, _-_, _≤_, _<_}
 use mathlib.Core.Path.{_≡_, refl, ap, sym, _∙_}
 use mathlib.Core.List.{List, [], _∷_, _++_, append-assoc}
@@ -8,7 +8,7 @@ use lib.ListN.{length, getD, drop, set, length-append, length-drop, List·getD-a
 use lib.Seq.{take-at, drop-at, drop-drop, getD-append-add}
 use borrow.Rule.Slice.PartMut.{putMid}
 use Rattle.counting.proofs.Cases.{by-eq}
-use Rattle.plan.specs.Given.{three, planned}
+use Rattle.plan.specs.inside.Given.{three, planned}
 
 -- three stores fill a part of three
 pub put-three : (l : List ℕ) (a b c : ℕ) → length l ≡ 3 → set (set (set l 0 a) 1 b) 2 c ≡ three a b c

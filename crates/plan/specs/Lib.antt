@@ -1,2 +1,2 @@
 -- The definitions of the crate `plan`.
-pub mod Given
+pub mod inside

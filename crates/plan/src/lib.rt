@@ -1,15 +1,17 @@
 // The operation plan: the checks in their order, the ranks filled, and each row's three numbers into its own part
 // of the output.
+mod filling;
+
 ghost use mathlib.Core.Path.{_≡_};
 ghost use mathlib.Core.List.{_++_};
 ghost use Prim.Native.Nat.{_*_, _≤_};
 ghost use lib.ListN.{length, drop};
 ghost use Rattle.tables.specs.Table.{Sound, most-rows};
-ghost use Rattle.tables.specs.Rows.{tableIn};
+ghost use Rattle.tables.specs.inside.Rows.{tableIn};
 ghost use Rattle.tables.specs.Answer.{resultOf};
-ghost use Rattle.ranks.specs.Answers.{planned-width, PlanAnswer};
-ghost use Rattle.plan.specs.Given.{three, planned, PlanRest};
-use periods::Busy;
+ghost use Rattle.choice.specs.Answers.{planned-width, PlanAnswer};
+ghost use Rattle.plan.specs.inside.Given.{three, planned, PlanRest};
+use sides::periods::Busy;
 use tables::Answer;
 use tables::PLAN_WIDTH;
 use tables::PLANNED_WIDTH;
@@ -50,7 +52,7 @@ fn plan_of(rows: [Row; 32], n: usize, out: &mut [u32]) -> Answer
     if out.len() < PLANNED_WIDTH * n {
         return Answer::Room;
     }
-    let busy = periods::busy_period(rows, n);
+    let busy = sides::periods::busy_period(rows, n);
     if let Busy::Beyond = busy {
         return Answer::NoBusy;
     }

@@ -1,4 +1,4 @@
 // The program `planner`: a sheet from standard input, its plan or its refusal to standard output.
 fn main() {
-    desk::run();
+    program::run();
 }

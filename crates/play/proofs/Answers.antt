@@ -1,4 +1,4 @@
--- The answers of play, case by case, from what the checks and the finish ticks say. Assumes nothing.
+-- The answers of play, case by case, from what the checks and the finish ticks say.
 use Prim.Native.Nat.{ℕ, _≤_, _<_}
 use mathlib.Core.Path.{_≡_, refl}
 use mathlib.Core.Logic.{inl, inr}
@@ -13,7 +13,7 @@ use Rattle.tables.specs.Checks.{shape, range, plan-form, jobs-shape, job-rules}
 use Rattle.tables.specs.Answer.{resultOf}
 use Rattle.tables.specs.declared.Answer.the-variants.{Given, Shape, Range, Plan, JobsShape, Job, Room}
 use Rattle.kernel.specs.Answers.{PlayGiven, PlayAnswer}
-use Rattle.play.specs.Rest.{PlayRest}
+use Rattle.play.specs.inside.Rest.{PlayRest}
 
 -- the checks 1 and 3
 module _ (xs ps js out : List ℕ) where

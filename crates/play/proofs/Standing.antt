@@ -1,4 +1,4 @@
--- How play stands at a tick, row by row, against the rule's ticks executed; and what one decision makes of it. Assumes nothing.
+-- How play stands at a tick, row by row, against the rule's ticks executed; and what one decision makes of it.
 use Prim.Native.Nat.{ℕ, zero, suc, _+_, _-_, _*_, _≤_, _<_}
 use mathlib.Core.Path.{_≡_, refl, sym, ap, _∙_, subst}
 use mathlib.Core.Bool.{true, false}
@@ -14,7 +14,7 @@ use Rattle.tables.specs.Table.{Table, Sound, most}
 use Rattle.tables.specs.Plan.{Plan, WellFormed}
 use Rattle.tables.specs.Jobs.{Jobs, WellFormedJobs, most-jobs, last-release}
 use Rattle.kernel.specs.Rule.{job, locked, Finishes}
-use Rattle.decision.specs.Decision.{Following, Released, Stretch, urgency}
+use Rattle.decision.specs.inside.Decision.{Following, Released, Stretch, urgency}
 use Rattle.decision.proofs.Scan.{urgency-rank, urgency-held, urgency-free}
 use Rattle.kernel.proofs.Rule as R
 use Rattle.kernel.proofs.Executed as X

@@ -1,4 +1,4 @@
--- One turn of play's loop, over the arrays that it keeps: how play stands after it, and that at most two turns a job are made. Assumes nothing.
+-- One turn of play's loop, over the arrays that it keeps: how play stands after it, and that at most two turns a job are made.
 use Prim.Native.Nat.{ℕ, _+_, _-_, _*_, _≤_, _<_}
 use mathlib.Core.Path.{_≡_, refl, ap, _∙_}
 use mathlib.Core.Logic.{_⊎_, inl, inr, ⊎-elim}
@@ -16,7 +16,7 @@ use Rattle.tables.specs.Plan.{Plan, WellFormed}
 use Rattle.tables.specs.Jobs.{Jobs, WellFormedJobs, most-jobs, last-release}
 use Rattle.kernel.specs.Rule.{locked}
 use Rattle.kernel.specs.Answers.{PlayGiven}
-use Rattle.decision.specs.Decision.{Following, Heads, Released, Foremost, Stretch, urgency}
+use Rattle.decision.specs.inside.Decision.{Following, Heads, Released, Foremost, Stretch, urgency}
 use Rattle.joblist.proofs.Walk.{zeros}
 use Rattle.play.proofs.Standing as S
 

@@ -1,4 +1,4 @@
--- Any two answers that play's promise allows are equal. Assumes nothing.
+-- Any two answers that play's promise allows are equal.
 use Prim.Native.Nat.{ℕ, _<_}
 use mathlib.Core.Path.{_≡_, sym, _∙_}
 use mathlib.Core.List.{List, [], _∷_}

@@ -1,4 +1,4 @@
--- Every finish tick that play gives is at most 1,000,000 + 4,096 × 1,000,000: document 01, "Finish output". Assumes nothing.
+-- Every finish tick that play gives is at most 1,000,000 + 4,096 × 1,000,000: document 01, "Finish output".
 use Prim.Native.Nat.{ℕ, _+_, _*_, _≤_, _<_}
 use mathlib.Core.Path.{_≡_, refl}
 use mathlib.Core.Logic.{_⊎_, ⊎-elim}

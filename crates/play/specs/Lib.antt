@@ -1,2 +1,2 @@
 -- The definitions of the crate `play`.
-pub mod Rest
+pub mod inside

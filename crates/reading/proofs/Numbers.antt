@@ -1,4 +1,4 @@
--- Laws of reading one number: its digits one by one, where it stops, and when it has passed. Assumes nothing.
+-- Laws of reading one number: its digits one by one, where it stops, and when it has passed.
 use Prim.Native.Nat.{ℕ, zero, suc, _+_, _*_, _/_, _%_, _≤_, _<_}
 use mathlib.Core.Path.{_≡_, refl, sym, ap, _∙_, subst}
 use mathlib.Core.Logic.{_⊎_, inl, inr, ⊎-elim}
@@ -7,10 +7,11 @@ use native.Mathlib.Omega.{arith}
 use lib.ListN.{length, take, drop, length-append}
 use lib.Seq.{take-at, take-append-add}
 use Rattle.counting.proofs.Cases.{by-eq}
-use Rattle.text.specs.Decimal.{nought, digits, decimal}
-use Rattle.text.proofs.Decimal.{digits-zero, digits-last, digits-more, decimal-digits}
-use Rattle.reading.specs.Piece.{Begins, Between, numberPiece, Stops, Passed}
-use Rattle.reading.specs.Read.{Digit}
+use Rattle.decimal.specs.Decimal.{nought, digits, decimal}
+use Rattle.decimal.proofs.Decimal.{digits-zero, digits-last, digits-more, decimal-digits}
+use Rattle.reading.specs.Begins.{Begins, Between}
+use Rattle.reading.specs.inside.Piece.{numberPiece, Stops, Passed}
+use Rattle.reading.specs.inside.Read.{Digit}
 use Rattle.reading.proofs.Pieces.{Code}
 
 -- s goes on with the digits that make w of v, and has the byte end behind them

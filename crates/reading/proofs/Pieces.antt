@@ -1,4 +1,4 @@
--- Laws of pieces of text: a piece behind another, and one piece for another with the same texts. Assumes nothing.
+-- Laws of pieces of text: a piece behind another, and one piece for another with the same texts.
 use Prim.Native.Nat.{ℕ, suc, _+_}
 use mathlib.Core.Path.{_≡_, refl, sym, ap, _∙_}
 use mathlib.Core.List.{List, [], _∷_, _++_, append-assoc}
@@ -6,7 +6,7 @@ use native.Mathlib.Omega.{arith}
 use native.Mathlib.Nat.{add-suc}
 use lib.ListN.{length, take, drop, length-append}
 use lib.Seq.{take-append-add}
-use Rattle.reading.specs.Piece.{Piece, wordPiece, both, Stops, Passed, Stuck}
+use Rattle.reading.specs.inside.Piece.{Piece, wordPiece, both, Stops, Passed, Stuck}
 
 -- what stands behind the same beginning is the same
 pub cancel : (p : List ℕ) {x y : List ℕ} → p ++ x ≡ p ++ y → x ≡ y

@@ -1,4 +1,4 @@
--- Any two answers that the promise of a reader allows are equal. Assumes nothing.
+-- Any two answers that the promise of a reader allows are equal.
 use Prim.Native.Nat.{ℕ, suc, _+_, _≤_, _<_}
 use mathlib.Core.Path.{_≡_, sym, ap, _∙_}
 use mathlib.Core.List.{List, [], _++_, append-assoc, append-nil}
@@ -6,9 +6,9 @@ use native.Mathlib.Omega.{arith}
 use lib.ListN.{length, take, drop, take-append-drop}
 use lib.Seq.{take-take}
 use Rattle.counting.proofs.Cases.{by-le}
-use Rattle.text.specs.Decimal.{nought}
-use Rattle.reading.specs.Piece.{Piece, wordPiece, numberPiece, Stops, Passed, Stuck}
-use Rattle.reading.specs.Read.{ReadsWord, ReadsNumber}
+use Rattle.decimal.specs.Decimal.{nought}
+use Rattle.reading.specs.inside.Piece.{Piece, wordPiece, numberPiece, Stops, Passed, Stuck}
+use Rattle.reading.specs.inside.Read.{ReadsWord, ReadsNumber}
 use Rattle.reading.specs.declared.WordRead.{WordRead}
 use Rattle.reading.specs.declared.WordRead.the-variants as word
 use Rattle.reading.specs.declared.NumberRead.{NumberRead}

@@ -1,11 +1,11 @@
--- Laws of reading one word: where it stops, and when it has passed. Assumes nothing.
+-- Laws of reading one word: where it stops, and when it has passed.
 use Prim.Native.Nat.{ℕ, suc, _+_, _≤_, _<_}
 use mathlib.Core.Path.{_≡_, refl, sym, ap, _∙_}
 use mathlib.Core.List.{List, _++_}
 use native.Mathlib.Omega.{arith}
 use lib.ListN.{length, getD, take, drop, length-append, take-append-drop, List·getD-append}
 use lib.Seq.{getD-take, length-take-le, drop-drop, take-length}
-use Rattle.reading.specs.Piece.{wordPiece, Stops, Passed}
+use Rattle.reading.specs.inside.Piece.{wordPiece, Stops, Passed}
 
 module _ (w s : List ℕ) (i : ℕ) (same : take i s ≡ take i w) where
   -- the text ends within the word

@@ -1,3 +1,3 @@
 -- The definitions of the crate `reading`.
-pub mod Piece
-pub mod Read
+pub mod Begins
+pub mod inside

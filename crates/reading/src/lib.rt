@@ -2,8 +2,8 @@
 ghost use mathlib.Core.Path.{_≡_};
 ghost use Prim.Native.Nat.{_≤_, _<_};
 ghost use lib.ListN.{length};
-ghost use Rattle.text.specs.Decimal.{nought};
-ghost use Rattle.reading.specs.Read.{ReadsWord, ReadsNumber, Grows};
+ghost use Rattle.decimal.specs.Decimal.{nought};
+ghost use Rattle.reading.specs.inside.Read.{ReadsWord, ReadsNumber, Grows};
 
 // A place in a text.
 pub struct Cursor {

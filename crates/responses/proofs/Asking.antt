@@ -1,13 +1,13 @@
--- A plan of the rows' table and of the table that their asks make: the same plans, and the same responses. Assumes nothing.
+-- A plan of the rows' table and of the table that their asks make: the same plans, and the same responses.
 use Prim.Native.Nat.{ℕ}
 use mathlib.Core.Path.{_≡_, refl, sym, ap, _∙_, subst}
 use mathlib.Core.List.{List}
 use Rattle.tables.specs.Table.{Table}
 use Rattle.tables.specs.Plan.{Plan, planOf}
-use Rattle.response.specs.Test.{Response, ResponseOf, above, longest, blocking}
-use Rattle.sides.specs.Asks.{asking}
+use Rattle.test.specs.Test.{Response, ResponseOf, above, longest, blocking}
+use Rattle.sides.specs.inside.Asks.{asking}
 use Rattle.sides.proofs.Asks.{sound-for, busy-for, response-of}
-use Rattle.responses.specs.Asked.{Planned}
+use Rattle.responses.specs.inside.Asked.{Planned}
 
 asking-blocking : (tb : Table) (p : Plan) (r : ℕ) → blocking (asking tb) p r ≡ blocking tb p r
 unfolding blocking longest

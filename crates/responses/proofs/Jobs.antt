@@ -1,14 +1,14 @@
--- The jobs of a row's active period: where each is released, starts and ends, and how low its start may be looked for. Assumes nothing.
+-- The jobs of a row's active period: where each is released, starts and ends, and how low its start may be looked for.
 use Prim.Native.Nat.{ℕ, suc, _+_, _*_, _≤_, _<_}
 use mathlib.Core.Bool.{Bool}
 use native.Mathlib.Omega.{arith}
 use native.Mathlib.Nat.{mul-le-mul-left}
 use Rattle.tables.specs.Table.{Table}
-use Rattle.response.specs.Test.{horizon, Active, jobs, Start}
+use Rattle.test.specs.Test.{horizon, Active, jobs, Start}
 use Rattle.counting.proofs.Up.{up-le}
-use Rattle.response.proofs.Load.{Positive}
-use Rattle.response.proofs.Starts.{released-within, start-exists, start-next, start-after, finish-high}
-use Rattle.responses.specs.Asked.{StartWithin}
+use Rattle.test.proofs.Load.{Positive}
+use Rattle.test.proofs.Starts.{released-within, start-exists, start-next, start-after, finish-high}
+use Rattle.responses.specs.inside.Asked.{StartWithin}
 
 -- row i, of length q, has the active period L up to H
 pub record Working (tb : Table) (P : ℕ → Bool) (b i q L : ℕ) : Type 0 where

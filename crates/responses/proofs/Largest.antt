@@ -1,13 +1,13 @@
--- The largest response over the jobs passed, job by job: where all jobs are passed, it is the response. Assumes nothing.
+-- The largest response over the jobs passed, job by job: where all jobs are passed, it is the response.
 use Prim.Native.Nat.{ℕ, suc, _+_, _-_, _*_, _≤_, _<_}
 use mathlib.Core.Path.{_≡_, refl, ap, subst}
 use mathlib.Core.Bool.{Bool}
 use native.Mathlib.Omega.{arith}
 use Rattle.tables.specs.Table.{Table}
-use Rattle.response.specs.Test.{jobs, Start, Finish, Response}
+use Rattle.test.specs.Test.{jobs, Start, Finish, Response}
 use Rattle.counting.proofs.Cases.{by-eq}
-use Rattle.response.proofs.Starts.{jobs-some, start-exists}
-use Rattle.response.proofs.Response.{finish-unique}
+use Rattle.test.proofs.Starts.{jobs-some, start-exists}
+use Rattle.test.proofs.Response.{finish-unique}
 use Rattle.responses.proofs.Jobs.{Working, job-after}
 
 -- of the first k jobs none has a response above R, and where R is not 0 one of them has it

@@ -1,4 +1,4 @@
--- Laws of the set of rows above a rank and of the longest length below it, row by row. Assumes nothing.
+-- Laws of the set of rows above a rank and of the longest length below it, row by row.
 use Prim.Native.Nat.{ℕ, pred, max, _+_, _≤_, _<_}
 use mathlib.Core.Path.{_≡_, refl, sym, ap, _∙_}
 use mathlib.Core.Bool.{Bool, true, false, _&&_, _||_}
@@ -7,13 +7,13 @@ use native.Mathlib.Numerals.{add-one}
 use lib.Dec.{ltb}
 use borrow.Author.Tests.{lt-ltb, le-ltb, eq-eqb, ne-eqb}
 use Rattle.counting.specs.Sum.{given, largest}
-use Rattle.marks.specs.Marks.{marked, More}
+use Rattle.marks.specs.inside.Marks.{marked, More}
 use Rattle.tables.specs.Plan.{Plan, blocks}
-use Rattle.response.specs.Test.{above, below, longest, blocking}
+use Rattle.test.specs.Test.{above, below, longest, blocking}
 use Rattle.counting.proofs.Cases.{by-le, by-eq}
 use Rattle.counting.proofs.Sum.{given-yes, given-no}
 use Rattle.marks.proofs.Marks.{none}
-use Rattle.responses.specs.Asked.{Above, Blocks}
+use Rattle.responses.specs.inside.Asked.{Above, Blocks}
 
 or-no : (b : Bool) → (b || false) ≡ b
 or-no true = refl

@@ -1,4 +1,4 @@
--- A row of a plan, with its rows above as a set and its blocking as a number: what its response asks for, and what it then is. Assumes nothing.
+-- A row of a plan, with its rows above as a set and its blocking as a number: what its response asks for, and what it then is.
 use Prim.Native.Nat.{ℕ, _≤_, _<_}
 use mathlib.Core.Path.{_≡_, refl, sym, _∙_, subst}
 use mathlib.Core.Bool.{Bool, true}
@@ -6,14 +6,14 @@ use mathlib.Core.List.{List}
 use native.Mathlib.Omega.{arith}
 use lib.Dec.{ltb}
 use borrow.Author.Tests.{ltb-true, lt-ltb}
-use Rattle.marks.specs.Marks.{marked}
+use Rattle.marks.specs.inside.Marks.{marked}
 use Rattle.tables.specs.Table.{Table}
 use Rattle.tables.specs.Plan.{planOf}
-use Rattle.response.specs.Test.{horizon, Active, Response, ResponseOf, above, blocking}
-use Rattle.periods.specs.Found.{ActiveWithin}
+use Rattle.test.specs.Test.{horizon, Active, Response, ResponseOf, above, blocking}
+use Rattle.sides.specs.inside.Found.{ActiveWithin}
 use Rattle.counting.proofs.Cases.{and-left}
-use Rattle.response.proofs.Plans.{blocking-is, longest-cases, plan-active, plan-bounded}
-use Rattle.responses.specs.Asked.{Above, Blocks, Planned}
+use Rattle.test.proofs.Plans.{blocking-is, longest-cases, plan-active, plan-bounded}
+use Rattle.responses.specs.inside.Asked.{Above, Blocks, Planned}
 use Rattle.responses.proofs.Same.{Agree, agree-sym, active-same, response-same}
 
 -- row i of the plan that stands in ps has the rows of the set above it, and the blocking b

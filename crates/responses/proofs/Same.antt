@@ -1,13 +1,13 @@
--- The rows below n alone count: two tests of the rows above that agree on them give the same periods, starts and responses. Assumes nothing.
+-- The rows below n alone count: two tests of the rows above that agree on them give the same periods, starts and responses.
 use Prim.Native.Nat.{ℕ, _<_}
 use mathlib.Core.Path.{_≡_, sym, _∙_}
 use mathlib.Core.Bool.{Bool}
 use native.Mathlib.Omega.{arith}
 use Rattle.tables.specs.Table.{Table}
-use Rattle.response.specs.Test.{before, upto, Active, active-side, start-side, Finish, Response}
+use Rattle.test.specs.Test.{before, upto, Active, active-side, start-side, Finish, Response}
 use Rattle.counting.proofs.Least.{least-map}
-use Rattle.response.proofs.Load.{load-ext}
-use Rattle.response.proofs.Sides.{active-side-is, start-side-is}
+use Rattle.test.proofs.Load.{load-ext}
+use Rattle.test.proofs.Sides.{active-side-is, start-side-is}
 
 -- the tests agree on the rows
 abbrev pub Agree : Table → (ℕ → Bool) → (ℕ → Bool) → Type 0

@@ -1,4 +1,4 @@
--- Laws of numbers stored one by one into a list of zeros: what holds of each stored so far holds of one more, and the places not reached hold 0. Assumes nothing.
+-- Laws of numbers stored one by one into a list of zeros: what holds of each stored so far holds of one more, and the places not reached hold 0.
 use Prim.Native.Nat.{ℕ, _+_, _≤_, _<_}
 use mathlib.Core.Path.{_≡_, _∙_}
 use mathlib.Core.List.{List}

@@ -1,4 +1,4 @@
--- Any two lists that the promise of `responses` allows are equal. Assumes nothing.
+-- Any two lists that the promise of `responses` allows are equal.
 use Prim.Native.Nat.{ℕ}
 use mathlib.Core.Path.{_≡_, sym, _∙_}
 use mathlib.Core.List.{List}
@@ -7,8 +7,8 @@ use lib.Seq.{ext-getD}
 use Rattle.counting.proofs.Cases.{by-le}
 use Rattle.tables.specs.Table.{Table}
 use Rattle.tables.specs.Plan.{Plan}
-use Rattle.response.proofs.Response.{response-unique}
-use Rattle.responses.specs.Asked.{Responses}
+use Rattle.test.proofs.Response.{response-unique}
+use Rattle.responses.specs.inside.Asked.{Responses}
 
 pub responses-unique : (tb : Table) (p : Plan) (l m : List ℕ) → Responses tb p l → Responses tb p m → l ≡ m
 responses-unique tb p l m a b =

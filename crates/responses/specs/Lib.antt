@@ -1,2 +1,2 @@
 -- The definitions of the crate `responses`.
-pub mod Asked
+pub mod inside

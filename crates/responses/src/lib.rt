@@ -2,15 +2,15 @@
 ghost use mathlib.Core.Path.{_≡_};
 ghost use Prim.Native.Nat.{_*_, _<_, _≤_};
 ghost use lib.ListN.{length};
-ghost use Rattle.marks.specs.Marks.{marked};
+ghost use Rattle.marks.specs.inside.Marks.{marked};
 ghost use Rattle.tables.specs.Table.{most-rows};
 ghost use Rattle.tables.specs.Plan.{plan-width, planOf};
-ghost use Rattle.tables.specs.Rows.{tableIn};
-ghost use Rattle.response.specs.Test.{horizon, Start, Response};
-ghost use Rattle.sides.specs.Asks.{askingIn};
-ghost use Rattle.sides.specs.Level.{Level};
-ghost use Rattle.periods.specs.Found.{ActiveWithin};
-ghost use Rattle.responses.specs.Asked.{StartWithin, Above, Blocks, Planned, Responses};
+ghost use Rattle.tables.specs.inside.Rows.{tableIn};
+ghost use Rattle.test.specs.Test.{horizon, Start, Response};
+ghost use Rattle.sides.specs.inside.Asks.{askingIn};
+ghost use Rattle.sides.specs.inside.Level.{Level};
+ghost use Rattle.sides.specs.inside.Found.{ActiveWithin};
+ghost use Rattle.responses.specs.inside.Asked.{StartWithin, Above, Blocks, Planned, Responses};
 use tables::PLAN_WIDTH;
 use tables::Row;
 
@@ -42,7 +42,7 @@ pub fn response(asks: &[u32; 64], n: usize, above: u32, b: u64, i: usize, q: u64
     let run = asks[at] as u64;
     let spacing = asks[at + 1] as u64;
     let least = sides::active_side(asks, n, above, b, i, 1);
-    let period = periods::active_period(asks, n, above, b, i, least);
+    let period = sides::periods::active_period(asks, n, above, b, i, least);
     let jobs = counting::round_up(period, spacing);
     let mut largest: u64 = 0;
     let mut low = least - q;

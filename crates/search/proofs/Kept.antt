@@ -1,4 +1,4 @@
--- Laws of the response that is kept beside a length's trial: the largest over the jobs passed, and after the last job the response. Assumes nothing.
+-- Laws of the response that is kept beside a length's trial: the largest over the jobs passed, and after the last job the response.
 use Prim.Native.Nat.{ℕ, suc, _+_, _-_, _*_, max, _≤_, _<_}
 use mathlib.Core.Path.{_≡_, sym, subst}
 use mathlib.Core.Bool.{Bool}
@@ -6,7 +6,7 @@ use native.Mathlib.Omega.{arith}
 use Rattle.counting.proofs.Cases.{by-le}
 use Rattle.counting.proofs.Least.{climbing-stops}
 use Rattle.tables.specs.Table.{Table}
-use Rattle.response.specs.Test.{upto, jobs, Start, start-side, Response}
+use Rattle.test.specs.Test.{upto, jobs, Start, start-side, Response}
 use Rattle.responses.proofs.Jobs.{Working, job-after}
 use Rattle.responses.proofs.Largest.{Passed, passed-larger, passed-same, passed-all}
 use Rattle.search.proofs.Trial.{Trial}

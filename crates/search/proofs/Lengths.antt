@@ -1,12 +1,12 @@
--- Laws of the search over a row's lengths: what is left is narrowed from both ends until the shortest is found. Assumes nothing.
+-- Laws of the search over a row's lengths: what is left is narrowed from both ends until the shortest is found.
 use Prim.Native.Nat.{ℕ, _+_, _≤_, _<_}
 use mathlib.Core.Path.{_≡_, sym, subst}
 use mathlib.Core.Bool.{Bool}
 use native.Mathlib.Omega.{arith}
 use Rattle.tables.specs.Table.{Table}
-use Rattle.response.proofs.Load.{Positive}
-use Rattle.ranks.specs.Choice.{Fits}
-use Rattle.ranks.proofs.Level.{fits-longer}
+use Rattle.test.proofs.Load.{Positive}
+use Rattle.choice.specs.Choice.{Fits}
+use Rattle.choice.proofs.Level.{fits-longer}
 
 -- the length to try next lies between what is left
 abbrev pub Between : ℕ → ℕ → ℕ → Type 0

@@ -1,4 +1,4 @@
--- Laws of a level's active period: it is the same for every row of the level, and with the blocking lies within the horizon. Assumes nothing.
+-- Laws of a level's active period: it is the same for every row of the level, and with the blocking lies within the horizon.
 use Prim.Native.Nat.{ℕ, _+_, _≤_, _<_}
 use mathlib.Core.Path.{_≡_, sym, _∙_}
 use mathlib.Core.Bool.{Bool, true}
@@ -8,10 +8,10 @@ use Rattle.counting.specs.Sum.{without}
 use Rattle.counting.proofs.Up.{up-le}
 use Rattle.counting.proofs.Least.{least-map, least-unique}
 use Rattle.tables.specs.Table.{Table}
-use Rattle.response.specs.Test.{horizon, before, load, busy-side, BusyWithin, Active, jobs}
-use Rattle.response.proofs.Load.{Positive}
-use Rattle.response.proofs.Sides.{active-side-level}
-use Rattle.response.proofs.Plans.{level-active}
+use Rattle.test.specs.Test.{horizon, before, load, busy-side, BusyWithin, Active, jobs}
+use Rattle.test.proofs.Load.{Positive}
+use Rattle.test.proofs.Sides.{active-side-level}
+use Rattle.test.proofs.Plans.{level-active}
 
 module _ (tb : Table) (U : ℕ → Bool) (b : ℕ) where
   -- one active period for all rows of U

@@ -1,4 +1,4 @@
--- Laws of the search over the rows: what is known of those seen while the rows of a rest are left to try. Assumes nothing.
+-- Laws of the search over the rows: what is known of those seen while the rows of a rest are left to try.
 use Prim.Native.Nat.{ℕ, _-_, min, _≤_, _<_}
 use mathlib.Core.Path.{_≡_, ap, sym, _∙_, subst}
 use mathlib.Core.Bool.{Bool, true, false}
@@ -6,11 +6,11 @@ use native.Mathlib.Omega.{arith}
 use Rattle.counting.specs.Sum.{without}
 use Rattle.counting.proofs.Cases.{by-bool, by-le, by-eq, not-both}
 use Rattle.counting.proofs.Sum.{without-elim, without-other}
-use Rattle.marks.specs.Marks.{marked, Next, Less}
+use Rattle.marks.specs.inside.Marks.{marked, Next, Less}
 use Rattle.marks.proofs.Marks.{none}
 use Rattle.tables.specs.Table.{Table}
 use Rattle.tables.specs.Plan.{cap}
-use Rattle.ranks.specs.Choice.{Fits, Shortest, Takes, NoneFits}
+use Rattle.choice.specs.Choice.{Fits, Shortest, Takes, NoneFits}
 
 -- top is the longest length with which a row of worst run c can still take the rank, where the best length so far is `best`, 0 if there is none
 abbrev pub Worth : ℕ → ℕ → ℕ → Type 0

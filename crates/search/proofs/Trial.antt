@@ -1,4 +1,4 @@
--- Laws of one length's trial, job by job: where it is left, the length passes or it does not. Assumes nothing.
+-- Laws of one length's trial, job by job: where it is left, the length passes or it does not.
 use Prim.Native.Nat.{ℕ, suc, _+_, _-_, _*_, _≤_, _<_}
 use mathlib.Core.Path.{_≡_, refl, ap, sym, subst}
 use mathlib.Core.Bool.{Bool}
@@ -7,13 +7,13 @@ use native.Mathlib.Numerals.{add-one}
 use Rattle.counting.proofs.Cases.{by-eq}
 use Rattle.counting.proofs.Least.{Climbing, climbing-below, climbing-step, climbing-stops, least-unique}
 use Rattle.tables.specs.Table.{Table}
-use Rattle.response.specs.Test.{upto, Active, jobs, Start, active-side, start-side}
-use Rattle.response.proofs.Load.{Positive}
-use Rattle.response.proofs.Sides.{start-side-mono}
-use Rattle.periods.proofs.Lower.{start-first}
-use Rattle.response.proofs.Starts.{start-exists, start-next}
-use Rattle.response.proofs.Response.{response-exists}
-use Rattle.ranks.specs.Choice.{Fits}
+use Rattle.test.specs.Test.{upto, Active, jobs, Start, active-side, start-side}
+use Rattle.test.proofs.Load.{Positive}
+use Rattle.test.proofs.Sides.{start-side-mono}
+use Rattle.sides.proofs.Lower.{start-first}
+use Rattle.test.proofs.Starts.{start-exists, start-next}
+use Rattle.test.proofs.Response.{response-exists}
+use Rattle.choice.specs.Choice.{Fits}
 
 -- job k of row i is due at (k - 1) T + D
 abbrev pub due : Table → ℕ → ℕ → ℕ

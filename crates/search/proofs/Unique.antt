@@ -1,14 +1,14 @@
--- Any two picks that the promise of `choose` allows are equal; the promise of `larger` is an equation. Assumes nothing.
+-- Any two picks that the promise of `choose` allows are equal; the promise of `larger` is an equation.
 use Prim.Native.Nat.{ℕ}
 use mathlib.Core.Path.{_≡_, refl, subst}
 use mathlib.Core.Bool.{Bool}
 use Rattle.counting.specs.Sum.{without}
 use Rattle.tables.specs.Table.{Table}
-use Rattle.response.specs.Test.{Response}
-use Rattle.response.proofs.Response.{response-unique}
-use Rattle.ranks.specs.Choice.{Takes, NoneFits}
-use Rattle.ranks.proofs.Level.{takes-unique}
-use Rattle.search.specs.Choose.{Picked}
+use Rattle.test.specs.Test.{Response}
+use Rattle.test.proofs.Response.{response-unique}
+use Rattle.choice.specs.Choice.{Takes, NoneFits}
+use Rattle.choice.proofs.Level.{takes-unique}
+use Rattle.search.specs.inside.Choose.{Picked}
 use Rattle.search.specs.declared.Pick.{Pick}
 use Rattle.search.specs.declared.Pick.the-variants.{Taken, Nothing}
 

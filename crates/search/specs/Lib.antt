@@ -1,2 +1,2 @@
 -- The definitions of the crate `search`.
-pub mod Choose
+pub mod inside

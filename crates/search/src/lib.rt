@@ -1,10 +1,10 @@
 // The search for one rank: the unplaced row with the least shortest passing length, the earliest among equals.
 ghost use mathlib.Core.Path.{_≡_};
 ghost use Prim.Native.Nat.{_+_, _-_, min, max, _≤_, _<_};
-ghost use Rattle.marks.specs.Marks.{marked};
+ghost use Rattle.marks.specs.inside.Marks.{marked};
 ghost use Rattle.tables.specs.Table.{most};
-ghost use Rattle.tables.specs.Rows.{tableIn};
-ghost use Rattle.search.specs.Choose.{Searchable, Picked};
+ghost use Rattle.tables.specs.inside.Rows.{tableIn};
+ghost use Rattle.search.specs.inside.Choose.{Searchable, Picked};
 use tables::Row;
 
 // The row that takes the rank, with its length and its response; or nothing, where no row has a passing length.
@@ -56,7 +56,7 @@ pub fn choose(rows: [Row; 32], n: usize, unplaced: u32, tried: u32, blocking: u6
     let first = marks::next(unplaced);
     let others = marks::less(unplaced, first);
     let least = sides::active_side(&asks, n, others, blocking, first as usize, 1);
-    let period = periods::active_period(&asks, n, others, blocking, first as usize, least);
+    let period = sides::periods::active_period(&asks, n, others, blocking, first as usize, least);
     let mut row: u32 = 0;
     let mut best: u64 = 0;
     let mut response: u64 = 0;

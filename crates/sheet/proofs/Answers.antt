@@ -1,5 +1,5 @@
 -- Laws of the answer of `sheet`: what was read is the sheet, any two answers are equal, and a text cut behind the longest sheet has the same
--- answer. Assumes nothing.
+-- answer.
 use Prim.Native.Nat.{ℕ, _*_, _≤_, _<_}
 use mathlib.Core.Path.{_≡_, refl, sym, ap, _∙_, subst}
 use mathlib.Core.Logic.{inl, ⊎-elim}
@@ -14,7 +14,7 @@ use Rattle.tables.specs.Checks.{Rows, range, room}
 use Rattle.tables.proofs.Answered.{OnePlace, answered-unique, result-same, range-place, room-place}
 use Rattle.sheet.specs.Sheet.{Task, WellFormed, Sheet, Shared, ticksOf}
 use Rattle.sheet.specs.Answers.{sheet-form, SheetGiven, TicksAnswer, SheetAnswer}
-use Rattle.sheet.specs.Read.{ReadsTasks, ReadsSheet}
+use Rattle.sheet.specs.inside.Read.{ReadsTasks, ReadsSheet}
 use Rattle.sheet.specs.declared.SheetRead.{SheetRead}
 use Rattle.sheet.specs.declared.SheetRead.the-variants as read
 use Rattle.sheet.proofs.Fronts.{length-ticks, longest-sheet, sheet-length, sheet-once, front-whole, shared-bound}

@@ -1,4 +1,4 @@
--- Laws of the front of a sheet that has been read: it grows line by line, and where it is stuck is the place of refusal 9. Assumes nothing.
+-- Laws of the front of a sheet that has been read: it grows line by line, and where it is stuck is the place of refusal 9.
 use Prim.Native.Nat.{ℕ, suc, _+_, _*_, _≤_, _<_}
 use mathlib.Core.Path.{_≡_, refl, sym, ap, _∙_}
 use mathlib.Core.List.{List, [], _∷_, _++_, append-assoc, append-nil}
@@ -8,11 +8,12 @@ use lib.ListN.{length, take, drop, length-append, length-drop, take-append-drop,
 use lib.Seq.{take-append-add, take-take, length-take-le}
 use Rattle.counting.proofs.Cases.{by-le}
 use Rattle.tables.specs.Table.{row-width, most-rows}
-use Rattle.reading.specs.Piece.{Between, Passed, Stuck}
+use Rattle.reading.specs.Begins.{Between}
+use Rattle.reading.specs.inside.Piece.{Passed, Stuck}
 use Rattle.reading.proofs.Pieces.{code-rest}
 use Rattle.sheet.specs.Sheet.{Task, longest-tick, tickLine, taskLine, TaskWithin, taskLines, TasksWithin, WellFormed, sheetText, Sheet, Shared, LongestPrefix, rowOf, ticksOf}
 use Rattle.sheet.specs.Answers.{sheet-form}
-use Rattle.sheet.specs.Read.{tickPiece, taskPiece, Front}
+use Rattle.sheet.specs.inside.Read.{tickPiece, taskPiece, Front}
 use Rattle.sheet.proofs.Lines.{code-tick, code-task, tick-length, task-length}
 
 -- one task more

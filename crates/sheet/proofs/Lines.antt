@@ -1,20 +1,21 @@
--- Laws of the lines of a sheet: what they are made of, and that each tells what it says. Assumes nothing.
+-- Laws of the lines of a sheet: what they are made of, and that each tells what it says.
 use Prim.Native.Nat.{ℕ, _+_, _≤_}
 use mathlib.Core.Path.{_≡_, sym, ap}
 use mathlib.Core.List.{List, [], _∷_, append-assoc}
 use native.Mathlib.Omega.{arith}
 use lib.ListN.{length, length-append}
-use Rattle.text.specs.Word.{word}
-use Rattle.text.specs.Decimal.{decimal}
-use Rattle.text.proofs.Decimal.{few}
-use Rattle.reading.specs.Piece.{Between, Piece, wordPiece, numberPiece, both, Passed}
-use Rattle.reading.specs.Read.{ReadsNumber}
+use Rattle.decimal.specs.Word.{word}
+use Rattle.decimal.specs.Decimal.{decimal}
+use Rattle.decimal.proofs.Decimal.{few}
+use Rattle.reading.specs.Begins.{Between}
+use Rattle.reading.specs.inside.Piece.{Piece, wordPiece, numberPiece, both, Passed}
+use Rattle.reading.specs.inside.Read.{ReadsNumber}
 use Rattle.reading.specs.declared.NumberRead.{NumberRead}
 use Rattle.reading.specs.declared.NumberRead.the-variants as number
 use Rattle.reading.proofs.Pieces.{Code, code-word, code-both, stuck-second, passed-both, Alike, alike-stuck, alike-passed, alike-code}
 use Rattle.reading.proofs.Numbers.{code-number}
 use Rattle.sheet.specs.Sheet.{Task, longest-tick, longest-time, tickLine, taskLine, TaskWithin}
-use Rattle.sheet.specs.Read.{tickPiece, timesPiece, taskPiece, ReadsTick, ReadsTimes, ReadsTask}
+use Rattle.sheet.specs.inside.Read.{tickPiece, timesPiece, taskPiece, ReadsTick, ReadsTimes, ReadsTask}
 use Rattle.sheet.specs.declared.LineRead.{LineRead}
 use Rattle.sheet.specs.declared.LineRead.the-variants as line
 

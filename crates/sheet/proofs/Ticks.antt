@@ -1,4 +1,4 @@
--- Laws of a row in ticks: it fits its numbers, and how it is put into the table. Assumes nothing.
+-- Laws of a row in ticks: it fits its numbers, and how it is put into the table.
 use Prim.Native.Nat.{ℕ, _+_, _*_, _-_, _≤_}
 use mathlib.Core.Path.{_≡_, refl, sym, ap, _∙_}
 use mathlib.Core.List.{List, [], _∷_, _++_, append-assoc}

@@ -1,4 +1,4 @@
 -- The definitions of the crate `sheet`.
 pub mod Sheet
 pub mod Answers
-pub mod Read
+pub mod inside

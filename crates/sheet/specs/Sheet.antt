@@ -5,9 +5,9 @@ use mathlib.Core.List.{List, [], _∷_, _++_}
 use lib.ListN.{length, take}
 use Rattle.counting.specs.Up.{up}
 use Rattle.tables.specs.Table.{most-rows}
-use Rattle.text.specs.Word.{word}
-use Rattle.text.specs.Decimal.{decimal}
-use Rattle.reading.specs.Piece.{Begins, Between}
+use Rattle.decimal.specs.Word.{word}
+use Rattle.decimal.specs.Decimal.{decimal}
+use Rattle.reading.specs.Begins.{Begins, Between}
 
 -- the worst run, the deadline and the least spacing of a task in microseconds
 pub record Task : Type 0 where

@@ -12,10 +12,10 @@ ghost use lib.ListN.{length, drop};
 ghost use Rattle.tables.specs.Table.{row-width, most-rows};
 ghost use Rattle.tables.specs.Checks.{Rows};
 ghost use Rattle.tables.specs.Answer.{resultOf};
-ghost use Rattle.reading.specs.Piece.{Between};
+ghost use Rattle.reading.specs.Begins.{Between};
 ghost use Rattle.sheet.specs.Sheet.{longest-tick, TaskWithin, rowOf};
 ghost use Rattle.sheet.specs.Answers.{TicksAnswer, SheetAnswer};
-ghost use Rattle.sheet.specs.Read.{taskOf, ReadsTick, ReadsTimes, ReadsTask, Front, ReadsTasks, ReadsSheet};
+ghost use Rattle.sheet.specs.inside.Read.{taskOf, ReadsTick, ReadsTimes, ReadsTask, Front, ReadsTasks, ReadsSheet};
 
 // What a line `task C D T` says, in microseconds.
 pub struct Times {

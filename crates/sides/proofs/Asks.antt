@@ -1,4 +1,4 @@
--- Laws of what the rows ask with: two stores a row, and that a right side, a period, a start and a response read nothing else. Assumes nothing.
+-- Laws of what the rows ask with: two stores a row, and that a right side, a period, a start and a response read nothing else.
 use Prim.Native.Nat.{ℕ, _+_, _*_, _<_, _≤_}
 use mathlib.Core.Path.{_≡_, sym, ap, _∙_, fun-ext, subst, refl}
 use mathlib.Core.Bool.{Bool}
@@ -8,10 +8,10 @@ use lib.ListN.{length, getD, set, length-set, List·getD-eq-default}
 use lib.Seq.{getD-set-same, getD-set-other}
 use Rattle.counting.proofs.Cases.{by-le, by-eq}
 use Rattle.tables.specs.Table.{Table, Sound}
-use Rattle.tables.specs.Rows.{no}
+use Rattle.tables.specs.inside.Rows.{no}
 use Rattle.tables.specs.declared.Row.{Row}
-use Rattle.response.specs.Test.{upto, load, busy-side, active-side, start-side, Busy, Active, Finish, Response}
-use Rattle.sides.specs.Asks.{asking, Asks}
+use Rattle.test.specs.Test.{upto, load, busy-side, active-side, start-side, Busy, Active, Finish, Response}
+use Rattle.sides.specs.inside.Asks.{asking, Asks}
 
 -- the rows before i have stored theirs
 pub record Stored (rows : List Row) (asks : List ℕ) (i : ℕ) : Type 0 where

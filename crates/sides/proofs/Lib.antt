@@ -4,3 +4,5 @@ pub mod Pairs
 pub mod Small
 pub mod Walk
 pub mod Unique
+pub mod Lower
+pub mod PeriodsUnique

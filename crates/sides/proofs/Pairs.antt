@@ -1,4 +1,4 @@
--- Lists of two numbers a row are equal where their rows are. Assumes nothing.
+-- Lists of two numbers a row are equal where their rows are.
 use Prim.Native.Nat.{ℕ, _+_, _*_, _/_}
 use mathlib.Core.Path.{_≡_, sym, ap, _∙_}
 use mathlib.Core.List.{List}

@@ -1,11 +1,11 @@
--- How large a load is within the horizon: no right side passes 64 bits. Assumes nothing.
+-- How large a load is within the horizon: no right side passes 64 bits.
 use Prim.Native.Nat.{ℕ, zero, suc, _+_, _*_, _≤_, _<_}
 use mathlib.Core.Bool.{Bool}
 use native.Mathlib.Omega.{arith}
 use native.Mathlib.Nat.{mul-le-mul, mul-le-mul-left, mul-le-mul-right}
 use Rattle.counting.specs.Sum.{given, sum}
 use Rattle.tables.specs.Table.{Table, Sound}
-use Rattle.response.specs.Test.{horizon, before, load}
+use Rattle.test.specs.Test.{horizon, before, load}
 use Rattle.counting.proofs.Cases.{by-bool}
 use Rattle.counting.proofs.Sum.{given-yes, given-no}
 use Rattle.counting.proofs.Up.{up-le}

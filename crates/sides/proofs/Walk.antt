@@ -1,14 +1,14 @@
--- The walk over the marks of a set: what is summed and what is left make the load. Assumes nothing.
+-- The walk over the marks of a set: what is summed and what is left make the load.
 use Prim.Native.Nat.{ℕ, _+_, _*_, _<_}
 use mathlib.Core.Path.{_≡_, sym, ap, _∙_}
 use mathlib.Core.Bool.{true}
 use native.Mathlib.Omega.{arith}
-use Rattle.marks.specs.Marks.{marked, Next, Less}
+use Rattle.marks.specs.inside.Marks.{marked, Next, Less}
 use Rattle.tables.specs.Table.{Table}
-use Rattle.response.specs.Test.{before, load}
+use Rattle.test.specs.Test.{before, load}
 use Rattle.counting.proofs.Sum.{without-elim}
 use Rattle.marks.proofs.Marks.{sum-none-marked}
-use Rattle.response.proofs.Load.{load-without}
+use Rattle.test.proofs.Load.{load-without}
 
 load-none : (tb : Table) (t : ℕ) → load before tb (marked 0) t ≡ 0
 unfolding load

@@ -1,3 +1,2 @@
 -- The definitions of the crate `sides`.
-pub mod Asks
-pub mod Level
+pub mod inside

@@ -1,12 +1,14 @@
 // The right sides of the test's equations, over what the rows ask with and a set of them. Each row of the set is
 // counted once, by its mark.
+pub mod periods;
+
 ghost use mathlib.Core.Path.{_≡_};
 ghost use Prim.Native.Nat.{_+_, _<_, _≤_};
-ghost use Rattle.marks.specs.Marks.{marked};
+ghost use Rattle.marks.specs.inside.Marks.{marked};
 ghost use Rattle.tables.specs.Table.{Sound};
-ghost use Rattle.response.specs.Test.{horizon, before, upto, load, busy-side, active-side, start-side};
-ghost use Rattle.sides.specs.Asks.{askingIn, Asks};
-ghost use Rattle.sides.specs.Level.{Level};
+ghost use Rattle.test.specs.Test.{horizon, before, upto, load, busy-side, active-side, start-side};
+ghost use Rattle.sides.specs.inside.Asks.{askingIn, Asks};
+ghost use Rattle.sides.specs.inside.Level.{Level};
 use tables::Row;
 
 // What each row asks with, its run and its spacing, side by side: made once, and lent to every right side.

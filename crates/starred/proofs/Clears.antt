@@ -1,4 +1,4 @@
--- Tests, computed by the checker, that a table, a plan and a job list pass the checks of refusal. Assumes nothing.
+-- Tests, computed by the checker, that a table, a plan and a job list pass the checks of refusal.
 use Prim.Native.Nat.{ℕ, _+_, _*_}
 use mathlib.Core.Path.{_≡_}
 use mathlib.Core.Bool.{Bool, true, _&&_, not}

@@ -1,4 +1,4 @@
--- The starred figures are right: a test of each figure that the checker computes, and the proof that what it passes is right. Assumes nothing.
+-- The starred figures are right: a test of each figure that the checker computes, and the proof that what it passes is right.
 use Prim.Native.Nat.{ℕ, suc, pred, _+_, _-_, _*_, _<_}
 use mathlib.Core.Path.{_≡_, refl, sym, _∙_}
 use mathlib.Core.Bool.{Bool, true, false, _&&_}
@@ -16,11 +16,11 @@ use Rattle.counting.proofs.Search.{first, all, all-at}
 use Rattle.tables.specs.Table.{Table, tableOf}
 use Rattle.tables.specs.Plan.{Plan, planOf}
 use Rattle.tables.specs.Jobs.{Jobs, jobsOf}
-use Rattle.response.specs.Test.{load, busy-side, BusyWithin, active-side, start-side, above, longest, blocking, ResponseOf}
-use Rattle.response.proofs.Load.{sound-positive}
-use Rattle.response.proofs.Plans.{plan-bounded}
-use Rattle.ranks.proofs.Filled.{chosen-not-stopped}
-use Rattle.ranks.specs.Answers.{plannedOf, responseIn, planned-width}
+use Rattle.test.specs.Test.{load, busy-side, BusyWithin, active-side, start-side, above, longest, blocking, ResponseOf}
+use Rattle.test.proofs.Load.{sound-positive}
+use Rattle.test.proofs.Plans.{plan-bounded}
+use Rattle.choice.proofs.Filled.{chosen-not-stopped}
+use Rattle.choice.specs.Answers.{plannedOf, responseIn, planned-width}
 use Rattle.kernel.specs.Rule.{one-of, pick, executed, Finishes}
 use Rattle.starred.specs.Figures.{Figure, plans, refuses, timed, plays, takes, shortest, Right, AllRight, figures, further, StarredFigures}
 use Rattle.starred.proofs.Seen.{look, seen, busy-seen, passes-h, overloaded, overloaded-none, period, start, value, start-seen, no-higher, as-high, highest-job, responds, responds-is, taken}

@@ -1,4 +1,4 @@
--- Tests, computed by the checker, of busy periods, starts and responses of small tables, and what they show. Assumes nothing.
+-- Tests, computed by the checker, of busy periods, starts and responses of small tables, and what they show.
 use Prim.Native.Nat.{ℕ, zero, suc, _+_, _-_, _*_, _<_}
 use mathlib.Core.Path.{_≡_, refl, sym, subst}
 use mathlib.Core.Bool.{Bool, true, _&&_}
@@ -11,8 +11,8 @@ use Rattle.counting.proofs.Cases.{by-le, and-left, and-right}
 use Rattle.counting.proofs.Search.{first, first-ge, first-before, first-within, all, all-at}
 use Rattle.counting.proofs.Least.{Mono, LeastFixed, Climbing, climbing-lo, climbing-step, least-unique}
 use Rattle.tables.specs.Table.{Table}
-use Rattle.response.specs.Test.{horizon, busy-side, BusyWithin, upto, active-side, start-side, jobs, Finish, Response}
-use Rattle.response.proofs.Load.{busy-side-mono}
+use Rattle.test.specs.Test.{horizon, busy-side, BusyWithin, upto, active-side, start-side, jobs, Finish, Response}
+use Rattle.test.proofs.Load.{busy-side-mono}
 
 -- how far a fixed point is looked for
 abbrev pub reach : ℕ

@@ -1,4 +1,4 @@
--- Tests, computed by the checker, of the choice on small tables: trials, shortest lengths, the row that takes a rank, ranks filled. Assumes nothing.
+-- Tests, computed by the checker, of the choice on small tables: trials, shortest lengths, the row that takes a rank, ranks filled.
 use Prim.Native.Nat.{ℕ, suc, _-_, _≤_, _<_}
 use mathlib.Core.Path.{_≡_, refl, subst}
 use mathlib.Core.Bool.{Bool, true, false, _&&_, _||_, not}
@@ -10,9 +10,9 @@ use Rattle.counting.proofs.Cases.{by-le, not-both, and-left, and-right}
 use Rattle.counting.proofs.Search.{first, first-ge, first-before, first-found, first-within, all, all-at}
 use Rattle.tables.specs.Table.{Table}
 use Rattle.tables.specs.Plan.{Plan}
-use Rattle.response.specs.Test.{Response, blocking}
-use Rattle.response.proofs.Response.{response-unique}
-use Rattle.ranks.specs.Choice.{unplaced, Fits, Shortest, TakesRank, NoneFitsRank, Filled, Stopped}
+use Rattle.test.specs.Test.{Response, blocking}
+use Rattle.test.proofs.Response.{response-unique}
+use Rattle.choice.specs.Choice.{unplaced, Fits, Shortest, TakesRank, NoneFitsRank, Filled, Stopped}
 use Rattle.starred.proofs.Seen.{value, responds, responds-is}
 
 -- where a test passes, another does

@@ -7,10 +7,10 @@ use lib.ListN.{length}
 use Rattle.tables.specs.Table.{tableOf}
 use Rattle.tables.specs.Plan.{planOf}
 use Rattle.tables.specs.Refusal.{Result}
-use Rattle.response.specs.Test.{above, blocking, Finish}
-use Rattle.response.specs.Answers.{TimesAnswer}
-use Rattle.ranks.specs.Choice.{unplaced, Shortest}
-use Rattle.ranks.specs.Answers.{PlanAnswer}
+use Rattle.test.specs.Test.{above, blocking, Finish}
+use Rattle.test.specs.Answers.{TimesAnswer}
+use Rattle.choice.specs.Choice.{unplaced, Shortest}
+use Rattle.choice.specs.Answers.{PlanAnswer}
 use Rattle.kernel.specs.Answers.{PlayAnswer}
 
 pub data Figure : Type 0 where

@@ -1,4 +1,4 @@
--- What an operation's answer tells: any two results that a promise allows are equal, where each check has one place and the given answer is settled; and the number 0 is that of a given answer. Assumes nothing.
+-- What an operation's answer tells: any two results that a promise allows are equal, where each check has one place and the given answer is settled; and the number 0 is that of a given answer.
 use Prim.Native.Nat.{ℕ, _+_, _-_, _≤_}
 use mathlib.Core.Path.{_≡_, sym, ap, _∙_}
 use mathlib.Core.Bool.{Bool, true, _&&_}

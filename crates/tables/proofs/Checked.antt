@@ -1,4 +1,4 @@
--- Laws of what the check functions answer. Assumes nothing.
+-- Laws of what the check functions answer.
 use Prim.Native.Nat.{ℕ, _*_, _≤_, _<_}
 use mathlib.Core.Path.{_≡_, refl}
 use mathlib.Core.Bool.{Bool, true, false}
@@ -12,7 +12,7 @@ use Rattle.tables.specs.Table.{Table}
 use Rattle.tables.specs.Plan.{plan-width, planOf}
 use Rattle.tables.specs.Refusal.{Clear}
 use Rattle.tables.specs.Checks.{RowAtFault, range, plan-form}
-use Rattle.tables.specs.Checked.{Says, FirstOutside}
+use Rattle.tables.specs.inside.Checked.{Says, FirstOutside}
 
 -- the same question, put in another way
 pub says-map : {A B : Type 0} (b : Bool) → (A → B) → (B → A) → Says b A → Says b B

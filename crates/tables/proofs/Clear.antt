@@ -1,4 +1,4 @@
--- What is known where the checks are clear: a sound table, a well-formed plan, a well-formed job list; and back. Assumes nothing.
+-- What is known where the checks are clear: a sound table, a well-formed plan, a well-formed job list; and back.
 use Prim.Native.Nat.{ℕ, zero, suc, _+_, _*_, _/_, _≤_, _<_}
 use mathlib.Core.Path.{_≡_, refl, sym}
 use mathlib.Core.Logic.{inl, inr, ⊎-elim}

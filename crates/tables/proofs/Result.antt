@@ -1,4 +1,4 @@
--- A case of the enum `Answer` that refuses. Assumes nothing.
+-- A case of the enum `Answer` that refuses.
 use Prim.Native.Nat.{ℕ}
 use mathlib.Core.Path.{_≡_, refl}
 use mathlib.Core.List.{List}

@@ -1,4 +1,4 @@
--- Laws of the rows in an array: stores below a row, and the array that holds a slice's table. Assumes nothing.
+-- Laws of the rows in an array: stores below a row, and the array that holds a slice's table.
 use Prim.Native.Nat.{ℕ, _+_, _*_, _<_, _≤_}
 use mathlib.Core.Path.{_≡_, sym, ap, _∙_, fun-ext}
 use mathlib.Core.List.{List}
@@ -7,7 +7,7 @@ use lib.ListN.{length, getD, set, replicate, length-replicate, getD-replicate, L
 use lib.Seq.{getD-set-same, getD-set-other}
 use Rattle.counting.proofs.Cases.{by-le, by-eq}
 use Rattle.tables.specs.Table.{Table, row-width, tableOf}
-use Rattle.tables.specs.Rows.{no, tableIn}
+use Rattle.tables.specs.inside.Rows.{no, tableIn}
 use Rattle.tables.specs.declared.Row.{Row}
 
 -- the i-th three numbers of a slice

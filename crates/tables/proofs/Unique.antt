@@ -1,4 +1,4 @@
--- Any two results that the promise of a function of this crate allows are equal. Assumes nothing.
+-- Any two results that the promise of a function of this crate allows are equal.
 use Prim.Native.Nat.{ℕ, _*_}
 use mathlib.Core.Path.{_≡_, refl, sym, ap, _∙_}
 use mathlib.Core.List.{List, [], _∷_}
@@ -8,8 +8,8 @@ use lib.Seq.{ext-getD}
 use Rattle.tables.specs.Table.{Table, row-width}
 use Rattle.tables.specs.Refusal.{Result}
 use Rattle.tables.specs.Answer.{numberOf, placeOf, valueOf, resultOf}
-use Rattle.tables.specs.Rows.{no, tableIn}
-use Rattle.tables.specs.Checked.{TableChecked, PlanChecked}
+use Rattle.tables.specs.inside.Rows.{no, tableIn}
+use Rattle.tables.specs.inside.Checked.{TableChecked, PlanChecked}
 use Rattle.tables.specs.declared.Answer.{Answer}
 use Rattle.tables.specs.declared.Answer.the-variants as answer
 use Rattle.tables.specs.declared.Said.{Said}

@@ -6,5 +6,4 @@ pub mod Jobs
 pub mod Refusal
 pub mod Answer
 pub mod Checks
-pub mod Rows
-pub mod Checked
+pub mod inside

@@ -6,8 +6,8 @@ ghost use Rattle.tables.specs.Table.{tableOf, row-width, most-rows};
 ghost use Rattle.tables.specs.Plan.{planOf, plan-width};
 ghost use Rattle.tables.specs.Checks.{RowAtFault, RankTaken};
 ghost use Rattle.tables.specs.Answer.{numberOf, placeOf, valueOf};
-ghost use Rattle.tables.specs.Rows.{tableIn};
-ghost use Rattle.tables.specs.Checked.{Says, FirstOutside, TableChecked, PlanChecked};
+ghost use Rattle.tables.specs.inside.Rows.{tableIn};
+ghost use Rattle.tables.specs.inside.Checked.{Says, FirstOutside, TableChecked, PlanChecked};
 
 // How many numbers a row of a task table has, a row of a plan, a row of a planned table, and a job of a job list.
 pub const ROW_WIDTH: usize = 3;

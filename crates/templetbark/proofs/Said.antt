@@ -1,4 +1,4 @@
--- The struct that says an answer stands for the answer's own result, and one result has one struct. Assumes nothing.
+-- The struct that says an answer stands for the answer's own result, and one result has one struct.
 use mathlib.Core.Path.{_≡_, ap}
 use mathlib.Core.List.{List}
 use Prim.Native.Nat.{ℕ}

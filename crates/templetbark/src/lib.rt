@@ -4,11 +4,11 @@ use tables::Said;
 ghost use mathlib.Core.List.{[]};
 ghost use mathlib.Core.Path.{_≡_};
 ghost use lib.ListN.{length};
-ghost use Rattle.response.specs.Answers.{TimesAnswer, VerdictAnswer};
-ghost use Rattle.ranks.specs.Answers.{PlanAnswer};
+ghost use Rattle.test.specs.Answers.{TimesAnswer, VerdictAnswer};
+ghost use Rattle.choice.specs.Answers.{PlanAnswer};
 ghost use Rattle.kernel.specs.Answers.{PlayAnswer};
 ghost use Rattle.sheet.specs.Answers.{SheetAnswer};
-ghost use Rattle.page.specs.Answers.{FitAnswer, PrintAnswer, PrintFront};
+ghost use Rattle.printing.specs.Answers.{FitAnswer, PrintAnswer, PrintFront};
 ghost use Rattle.templetbark.specs.Said.{saidOf};
 
 // A task table to ranks, region lengths and response times.
@@ -56,7 +56,7 @@ pub extern "C" fn tb_sheet(text: &[u8], out: &mut [u32]) -> Said
 pub extern "C" fn tb_print(planned: &[u32], buf: &mut [u8]) -> Said
     ensures { λ r. ⌜ PrintAnswer (now (planned .entry)) (now (buf .entry)) (saidOf r (now (buf .exit))) ⌝ }
 {
-    tables::say(page::print_into(planned, buf))
+    tables::say(printing::print_into(planned, buf))
 }
 
 // A planned table and a buffer length to the number of bytes that print writes, or its refusal.
@@ -64,12 +64,12 @@ pub extern "C" fn tb_print(planned: &[u32], buf: &mut [u8]) -> Said
 pub extern "C" fn tb_fit(planned: &[u32], len: usize) -> Said
     ensures { λ r. ⌜ FitAnswer (now (planned .entry)) len (saidOf r []) ⌝ }
 {
-    tables::say(page::fit(planned, len))
+    tables::say(printing::fit(planned, len))
 }
 
 // A planned table to text, for callers in Rattle: the written front of the lent buffer itself, empty on a refusal.
 pub fn print<'a>(planned: &[u32], buf: &'a mut [u8]) -> &'a mut [u8]
     ensures { λ r. ⌜ PrintFront (now (planned .entry)) (length (now (buf .entry))) (now r) × (r .ptr ≡ buf .entry .ptr) ⌝ }
 {
-    page::print(planned, buf)
+    printing::print(planned, buf)
 }

@@ -1,4 +1,4 @@
--- The answers of `times` and `verdict`, case by case, from what the checks and the responses say. Assumes nothing.
+-- The answers of `times` and `verdict`, case by case, from what the checks and the responses say.
 use Prim.Native.Nat.{ℕ, _≤_, _<_}
 use mathlib.Core.Path.{_≡_, refl, sym, subst}
 use mathlib.Core.Logic.{inl, inr}
@@ -11,14 +11,14 @@ use Rattle.tables.specs.Refusal.{Clear, Result}
 use Rattle.tables.specs.Checks.{shape, range, plan-form, room}
 use Rattle.tables.specs.Answer.{resultOf}
 use Rattle.tables.specs.declared.Answer.the-variants.{Given, Shape, Range, Plan, Room, NoBusy}
-use Rattle.response.specs.Test.{BusyWithin, Passes, ResponseOf}
-use Rattle.response.specs.Answers.{no-busy, TimesAnswer, TimesGiven, VerdictAnswer}
-use Rattle.responses.specs.Asked.{Planned, Responses}
+use Rattle.test.specs.Test.{BusyWithin, Passes, ResponseOf}
+use Rattle.test.specs.Answers.{no-busy, TimesAnswer, TimesGiven, VerdictAnswer}
+use Rattle.responses.specs.inside.Asked.{Planned, Responses}
 use Rattle.tables.proofs.Clear.{plan-of-clear}
 use Rattle.tables.proofs.Result.{refuse}
-use Rattle.response.proofs.Response.{response-unique}
-use Rattle.response.proofs.Plans.{plan-bounded}
-use Rattle.times.specs.Given.{Written, InTime, TimesRest, VerdictRest}
+use Rattle.test.proofs.Response.{response-unique}
+use Rattle.test.proofs.Plans.{plan-bounded}
+use Rattle.times.specs.inside.Given.{Written, InTime, TimesRest, VerdictRest}
 
 -- what the responses ask for
 pub planned : (tb : Table) (ps : List ℕ) → Sound tb → Clear (plan-form tb ps) → BusyWithin tb → Planned tb ps

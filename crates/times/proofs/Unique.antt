@@ -1,4 +1,4 @@
--- Any two answers that the promises of `times` and `verdict` allow are equal. Assumes nothing.
+-- Any two answers that the promises of `times` and `verdict` allow are equal.
 use Prim.Native.Nat.{ℕ}
 use mathlib.Core.Path.{_≡_, sym, _∙_}
 use mathlib.Core.Logic.{⊎-elim}
@@ -9,10 +9,10 @@ use Rattle.tables.specs.Table.{Table, tableOf}
 use Rattle.tables.specs.Plan.{Plan, planOf}
 use Rattle.tables.specs.Checks.{shape, range, plan-form, room}
 use Rattle.tables.specs.Refusal.{Result}
-use Rattle.response.specs.Answers.{no-busy, TimesGiven, VerdictGiven, TimesAnswer, VerdictAnswer}
+use Rattle.test.specs.Answers.{no-busy, TimesGiven, VerdictGiven, TimesAnswer, VerdictAnswer}
 use Rattle.counting.proofs.Cases.{by-le}
 use Rattle.tables.proofs.Answered.{OnePlace, OneGiven, answered-unique, same-rest, shape-place, range-place, plan-form-place, room-place}
-use Rattle.response.proofs.Response.{response-unique}
+use Rattle.test.proofs.Response.{response-unique}
 
 pub no-busy-place : (tb : Table) → OnePlace (no-busy tb)
 no-busy-place tb a b h g = h .0 ∙ sym (g .0)

@@ -1,4 +1,4 @@
--- Laws of an output that is written row by row. Assumes nothing.
+-- Laws of an output that is written row by row.
 use Prim.Native.Nat.{ℕ, _+_, _<_}
 use mathlib.Core.Path.{_≡_, refl, sym, ap, _∙_}
 use mathlib.Core.List.{List}
@@ -6,7 +6,7 @@ use native.Mathlib.Omega.{arith}
 use lib.ListN.{length, getD, set, drop, length-set}
 use lib.Seq.{drop-drop, drop-set-lt}
 use Rattle.responses.proofs.Stored.{stored}
-use Rattle.times.specs.Given.{Written}
+use Rattle.times.specs.inside.Given.{Written}
 
 module _ (rs out : List ℕ) where
   pub written-none : Written rs 0 out out

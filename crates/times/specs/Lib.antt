@@ -1,2 +1,2 @@
 -- The definitions of the crate `times`.
-pub mod Given
+pub mod inside

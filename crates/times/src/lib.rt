@@ -3,12 +3,12 @@ ghost use mathlib.Core.List.{[]};
 ghost use Prim.Native.Nat.{_≤_};
 ghost use lib.ListN.{length};
 ghost use Rattle.tables.specs.Table.{Sound, most-rows};
-ghost use Rattle.tables.specs.Rows.{tableIn};
+ghost use Rattle.tables.specs.inside.Rows.{tableIn};
 ghost use Rattle.tables.specs.Answer.{resultOf};
-ghost use Rattle.tables.specs.Checked.{Says};
-ghost use Rattle.response.specs.Answers.{TimesAnswer, VerdictAnswer};
-ghost use Rattle.times.specs.Given.{Written, InTime, TimesRest, VerdictRest};
-use periods::Busy;
+ghost use Rattle.tables.specs.inside.Checked.{Says};
+ghost use Rattle.test.specs.Answers.{TimesAnswer, VerdictAnswer};
+ghost use Rattle.times.specs.inside.Given.{Written, InTime, TimesRest, VerdictRest};
+use sides::periods::Busy;
 use tables::Answer;
 use tables::PlanCheck;
 use tables::Row;
@@ -54,7 +54,7 @@ fn times_of(rows: [Row; 32], n: usize, plan: &[u32], out: &mut [u32]) -> Answer
     if out.len() < n {
         return Answer::Room;
     }
-    let busy = periods::busy_period(rows, n);
+    let busy = sides::periods::busy_period(rows, n);
     if let Busy::Beyond = busy {
         return Answer::NoBusy;
     }
@@ -71,7 +71,7 @@ fn verdict_of(rows: [Row; 32], n: usize, plan: &[u32]) -> Answer
     if let PlanCheck::AtFault(at) = form {
         return Answer::Plan(at);
     }
-    let busy = periods::busy_period(rows, n);
+    let busy = sides::periods::busy_period(rows, n);
     if let Busy::Beyond = busy {
         return Answer::NoBusy;
     }

@@ -8,7 +8,7 @@ use Rattle.counting.proofs.Cases.{by-eq}
 use lib.Seq.{getD-set-same, getD-set-other}
 use Rattle.tables.specs.Jobs.{jobsOf}
 use Rattle.tables.proofs.Rows.{holds-none}
-use Rattle.decision.specs.Decision.{Following}
+use Rattle.decision.specs.inside.Decision.{Following}
 use Rattle.decision.proofs.first_jobs.Statement.{statement}
 use Rattle.decision.proofs.first_jobs.Tie as tie
 

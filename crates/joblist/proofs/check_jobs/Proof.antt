@@ -7,8 +7,8 @@ use borrow.Author.Tests.{not-true, not-false}
 use mathlib.Core.Logic.{inl}
 use Rattle.tables.specs.Refusal.{Clear}
 use Rattle.tables.specs.Checks.{jobs-shape, job-rules}
-use Rattle.tables.specs.Checked.{Says}
-use Rattle.joblist.specs.Listed.{KeepsAlone}
+use Rattle.tables.specs.inside.Checked.{Says}
+use Rattle.joblist.specs.inside.Listed.{KeepsAlone}
 use Rattle.tables.proofs.Clear.{shape-of-jobs}
 use Rattle.tables.specs.Table.{Table, tableOf}
 use mathlib.Core.List.{List}

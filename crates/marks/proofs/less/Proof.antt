@@ -2,7 +2,7 @@
 use Prim.Native.Nat.{ℕ, _-_, _≤_}
 use mathlib.Core.Path.{sym, subst}
 use borrow.Author.Needs.{needs}
-use Rattle.marks.specs.Marks.{Less}
+use Rattle.marks.specs.inside.Marks.{Less}
 use Rattle.marks.proofs.Marks.{one-shl, worth, less-by-worth}
 use Rattle.marks.proofs.less.Statement.{statement}
 use Rattle.marks.proofs.less.Tie as tie

@@ -1,7 +1,7 @@
 -- `whole` meets its contract: all 32 marks shifted down to n of them.
 use mathlib.Core.Path.{sym, subst}
 use borrow.Author.Needs.{needs}
-use Rattle.marks.specs.Marks.{Whole}
+use Rattle.marks.specs.inside.Marks.{Whole}
 use Rattle.marks.proofs.Marks.{shifted, whole-by-power}
 use Rattle.marks.proofs.whole.Statement.{statement}
 use Rattle.marks.proofs.whole.Tie as tie

@@ -1,4 +1,4 @@
--- `plan_of` meets its contract: the checks 2 and 4, the filling and its stop, then the parts. Assumes nothing.
+-- `plan_of` meets its contract: the checks 2 and 4, the filling and its stop, then the parts.
 use Prim.Native.Nat.{ℕ, _*_, _≤_}
 use mathlib.Core.Path.{sym, subst}
 use mathlib.Core.List.{List}
@@ -7,12 +7,12 @@ use native.Mathlib.Omega.{arith}
 use lib.ListN.{length}
 use borrow.Author.Needs.{needs}
 use Rattle.tables.specs.Table.{Table}
-use Rattle.tables.specs.Rows.{tableIn}
-use Rattle.response.specs.Test.{BusyWithin}
-use Rattle.periods.specs.Found.{BusyFound}
+use Rattle.tables.specs.inside.Rows.{tableIn}
+use Rattle.test.specs.Test.{BusyWithin}
+use Rattle.sides.specs.inside.Found.{BusyFound}
 use Rattle.tables.specs.Answer.{resultOf}
 use Rattle.tables.specs.declared.Answer.the-variants.{Given}
-use Rattle.plan.specs.Given.{PlanRest}
+use Rattle.plan.specs.inside.Given.{PlanRest}
 use Rattle.plan.proofs.Answers.{plan-room, plan-busy, plan-stopped, plan-given}
 use Rattle.plan.proofs.plan_of.Statement.{statement}
 use Rattle.plan.proofs.plan_of.Tie as tie

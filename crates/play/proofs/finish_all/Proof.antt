@@ -6,7 +6,7 @@ use lib.ListN.{length, set}
 use mathlib.Core.Bool.{Bool}
 use mathlib.Core.Logic.{⊎-elim}
 use Rattle.kernel.specs.Rule.{locked}
-use Rattle.decision.specs.Decision.{Stretch}
+use Rattle.decision.specs.inside.Decision.{Stretch}
 use Rattle.tables.specs.Table.{Table, tableOf}
 use Rattle.tables.specs.Plan.{Plan, planOf}
 use Rattle.tables.specs.Jobs.{Jobs, jobsOf}

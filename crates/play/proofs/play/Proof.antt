@@ -7,7 +7,7 @@ use mathlib.Core.List.{List}
 use Rattle.tables.specs.Table.{row-width}
 use Rattle.tables.specs.Refusal.{Clear}
 use Rattle.tables.specs.Checks.{shape, range}
-use Rattle.tables.specs.Checked.{TableChecked}
+use Rattle.tables.specs.inside.Checked.{TableChecked}
 use Rattle.tables.specs.Answer.{resultOf}
 use Rattle.tables.proofs.Clear.{sound-of-clear}
 use Rattle.play.proofs.Answers.{play-shape, play-range, play-rest}

@@ -6,12 +6,12 @@ use borrow.Author.Needs.{needs}
 use mathlib.Core.List.{List}
 use Rattle.tables.specs.Table.{Table, tableOf}
 use Rattle.tables.specs.Jobs.{jobsOf}
-use Rattle.tables.specs.Rows.{tableIn}
+use Rattle.tables.specs.inside.Rows.{tableIn}
 use Rattle.tables.specs.Refusal.{Clear}
 use Rattle.tables.specs.Checks.{plan-form, jobs-shape, job-rules}
-use Rattle.tables.specs.Checked.{PlanChecked}
+use Rattle.tables.specs.inside.Checked.{PlanChecked}
 use Rattle.tables.proofs.Clear.{plan-of-clear, jobs-of-clear}
-use Rattle.joblist.specs.Listed.{ListSaid}
+use Rattle.joblist.specs.inside.Listed.{ListSaid}
 use Rattle.play.proofs.Answers.{rest-plan, rest-jobs, rest-job, rest-room, rest-given}
 use Rattle.play.proofs.play_sound.Statement.{statement}
 use Rattle.play.proofs.play_sound.Tie as tie

@@ -1,4 +1,4 @@
--- `grow` meets its contract. Assumes nothing.
+-- `grow` meets its contract.
 use Prim.Native.Nat.{_-_}
 use mathlib.Core.Path.{refl}
 use borrow.Author.Needs.{needs}

@@ -1,13 +1,13 @@
--- `read_number` meets its contract. The loop's invariant: the digits of v have been read, and v is at most the largest. Assumes nothing.
+-- `read_number` meets its contract. The loop's invariant: the digits of v have been read, and v is at most the largest.
 use mathlib.Core.Path.{subst}
 use mathlib.Core.List.{List, _∷_, _++_}
 use native.Mathlib.Numerals.{add-one}
 use lib.ListN.{drop, drop-of-length-le}
 use lib.Seq.{drop-cons}
-use Rattle.text.specs.Decimal.{digits}
-use Rattle.text.proofs.Decimal.{digits-zero}
-use Rattle.reading.specs.Piece.{numberPiece, Stuck}
-use Rattle.reading.specs.Read.{Grows}
+use Rattle.decimal.specs.Decimal.{digits}
+use Rattle.decimal.proofs.Decimal.{digits-zero}
+use Rattle.reading.specs.inside.Piece.{numberPiece, Stuck}
+use Rattle.reading.specs.inside.Read.{Grows}
 use Rattle.reading.proofs.Numbers.{number-cut, number-stops, number-passed, number-grows}
 use Prim.Native.Nat.{ℕ, _≤_, _+_, _-_}
 use mathlib.Core.Path.{_≡_, refl, sym, ap, _∙_}

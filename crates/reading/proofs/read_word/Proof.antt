@@ -1,4 +1,4 @@
--- `read_word` meets its contract. The loop's invariant: the bytes passed are those of the word. Assumes nothing.
+-- `read_word` meets its contract. The loop's invariant: the bytes passed are those of the word.
 use mathlib.Core.List.{List, [], _∷_, _++_}
 use native.Mathlib.Numerals.{add-one}
 use lib.ListN.{take, drop, length-drop}

@@ -1,11 +1,11 @@
--- `above_of` meets its contract: the set marks the rows passed that are of higher rank. Assumes nothing.
+-- `above_of` meets its contract: the set marks the rows passed that are of higher rank.
 use Prim.Native.Nat.{_≤_, _-_}
 use mathlib.Core.Logic.{⊎-elim}
 use mathlib.Core.Path.{_≡_}
 use native.Mathlib.Omega.{arith}
 use borrow.Author.Needs.{needs}
 use Rattle.tables.specs.Plan.{planOf}
-use Rattle.responses.specs.Asked.{Above}
+use Rattle.responses.specs.inside.Asked.{Above}
 use Rattle.responses.proofs.Plans.{above-none, above-apart, above-more, above-same}
 use Rattle.responses.proofs.above_of.Statement.{statement}
 use Rattle.responses.proofs.above_of.Tie as tie

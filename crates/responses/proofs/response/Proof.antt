@@ -1,4 +1,4 @@
--- `response` meets its contract: the largest over the jobs passed, each start no lower than the one before plus C. Assumes nothing.
+-- `response` meets its contract: the largest over the jobs passed, each start no lower than the one before plus C.
 use Prim.Native.Nat.{suc, ℕ, _≤_, _<_, _-_}
 use mathlib.Core.Path.{subst, _≡_}
 use mathlib.Core.Bool.{Bool}
@@ -7,13 +7,13 @@ use native.Mathlib.Numerals.{add-one}
 use native.Mathlib.Omega.{arith}
 use borrow.Author.Needs.{needs}
 use Rattle.tables.specs.Table.{Table, Within}
-use Rattle.response.specs.Test.{jobs, Start}
-use Rattle.marks.specs.Marks.{marked}
-use Rattle.sides.specs.Asks.{askingIn}
+use Rattle.test.specs.Test.{jobs, Start}
+use Rattle.marks.specs.inside.Marks.{marked}
+use Rattle.sides.specs.inside.Asks.{askingIn}
 use Rattle.counting.proofs.Least.{least-unique}
-use Rattle.response.proofs.Load.{sound-positive}
-use Rattle.response.proofs.Sides.{active-side-up}
-use Rattle.periods.proofs.Lower.{active-first, run-first, start-first}
+use Rattle.test.proofs.Load.{sound-positive}
+use Rattle.test.proofs.Sides.{active-side-up}
+use Rattle.sides.proofs.Lower.{active-first, run-first, start-first}
 use Rattle.responses.proofs.Jobs.{Working, jobs-few, job-released, job-starts, job-after, job-ends, next-low}
 use Rattle.responses.proofs.Largest.{Passed, passed-none, passed-larger, passed-same, passed-all}
 use Rattle.responses.proofs.response.Statement.{statement}

@@ -1,4 +1,4 @@
--- `responses` meets its contract: each row passed has its response in its place, and the places not reached hold 0. Assumes nothing.
+-- `responses` meets its contract: each row passed has its response in its place, and the places not reached hold 0.
 use Prim.Native.Nat.{ℕ, _≤_, _<_, _-_}
 use mathlib.Core.List.{List}
 use mathlib.Core.Path.{_≡_, refl, _∙_}
@@ -8,10 +8,10 @@ use borrow.Author.Count.{below-none}
 use borrow.Author.Needs.{needs}
 use Rattle.tables.specs.Table.{Table}
 use Rattle.tables.specs.Plan.{planOf}
-use Rattle.tables.specs.Rows.{tableIn}
-use Rattle.response.specs.Test.{ResponseOf}
-use Rattle.sides.specs.Asks.{asking, askingIn}
-use Rattle.responses.specs.Asked.{Planned}
+use Rattle.tables.specs.inside.Rows.{tableIn}
+use Rattle.test.specs.Test.{ResponseOf}
+use Rattle.sides.specs.inside.Asks.{asking, askingIn}
+use Rattle.responses.specs.inside.Asked.{Planned}
 use Rattle.responses.proofs.Asking.{planned-for, plan-response-of}
 use Rattle.responses.proofs.Row.{Placed, set-inside, blocking-small, active-here, response-here, response-small}
 use Rattle.responses.proofs.Stored.{stored, zeros, unreached}

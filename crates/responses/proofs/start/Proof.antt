@@ -1,12 +1,12 @@
--- `start` meets its contract: the iteration climbs to the start. Assumes nothing.
+-- `start` meets its contract: the iteration climbs to the start.
 use Prim.Native.Nat.{ℕ, _≤_, _+_, _-_}
 use mathlib.Core.Path.{sym, _∙_}
 use native.Mathlib.Omega.{arith}
-use Rattle.marks.specs.Marks.{marked}
-use Rattle.sides.specs.Asks.{askingIn}
-use Rattle.response.specs.Test.{horizon, upto, start-side}
+use Rattle.marks.specs.inside.Marks.{marked}
+use Rattle.sides.specs.inside.Asks.{askingIn}
+use Rattle.test.specs.Test.{horizon, upto, start-side}
 use Rattle.counting.proofs.Least.{Mono, Climbing, climbing-below, climbing-step, climbing-stops}
-use Rattle.response.proofs.Sides.{start-side-mono}
+use Rattle.test.proofs.Sides.{start-side-mono}
 use Rattle.responses.proofs.start.Statement.{statement}
 use Rattle.responses.proofs.start.Tie as tie
 

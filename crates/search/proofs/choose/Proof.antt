@@ -9,21 +9,21 @@ use borrow.Author.Needs.{needs}
 use Rattle.counting.specs.Sum.{without}
 use Rattle.counting.proofs.Cases.{not-both}
 use Rattle.counting.proofs.Sum.{without-elim}
-use Rattle.marks.specs.Marks.{marked}
+use Rattle.marks.specs.inside.Marks.{marked}
 use Rattle.tables.specs.Table.{Table, Within}
-use Rattle.tables.specs.Rows.{tableIn}
-use Rattle.response.specs.Test.{horizon, upto, Active, jobs, active-side, start-side, Response}
-use Rattle.response.proofs.Load.{Positive, sound-positive}
-use Rattle.response.proofs.Sides.{active-side-up, active-side-level}
-use Rattle.response.proofs.Starts.{jobs-some}
-use Rattle.response.proofs.Response.{response-unique}
-use Rattle.sides.specs.Asks.{asking, askingIn}
-use Rattle.sides.specs.Level.{Level}
+use Rattle.tables.specs.inside.Rows.{tableIn}
+use Rattle.test.specs.Test.{horizon, upto, Active, jobs, active-side, start-side, Response}
+use Rattle.test.proofs.Load.{Positive, sound-positive}
+use Rattle.test.proofs.Sides.{active-side-up, active-side-level}
+use Rattle.test.proofs.Starts.{jobs-some}
+use Rattle.test.proofs.Response.{response-unique}
+use Rattle.sides.specs.inside.Asks.{asking, askingIn}
+use Rattle.sides.specs.inside.Level.{Level}
 use Rattle.sides.proofs.Asks.{sound-for, run-for, active-side-of, start-side-of, active-of, active-for}
-use Rattle.periods.proofs.Lower.{active-first, run-first}
+use Rattle.sides.proofs.Lower.{active-first, run-first}
 use Rattle.responses.proofs.Jobs.{Working}
 use Rattle.responses.proofs.Largest.{Passed, passed-none}
-use Rattle.ranks.specs.Choice.{Fits}
+use Rattle.choice.specs.Choice.{Fits}
 use Rattle.search.proofs.Period.{period-same, blocking-within, period-exists, period-within, jobs-few}
 use Rattle.search.proofs.Trial.{Trial, due, trial-first, trial-within, trial-again, trial-next, trial-passes, trial-misses}
 use Rattle.search.proofs.Kept.{kept-after, kept-more, kept-all}

@@ -1,4 +1,4 @@
--- `put_front` meets its contract. The loop's invariant: the numbers passed stand at the front. Assumes nothing.
+-- `put_front` meets its contract. The loop's invariant: the numbers passed stand at the front.
 use mathlib.Core.List.{List}
 use native.Mathlib.Numerals.{add-one}
 use lib.ListN.{set, length-set}

@@ -1,4 +1,4 @@
--- `put_ticks` meets its contract. Assumes nothing.
+-- `put_ticks` meets its contract.
 use lib.ListN.{length-set}
 use Rattle.sheet.proofs.Ticks.{up-small, filled}
 use mathlib.Core.Path.{_∙_}

@@ -1,6 +1,6 @@
--- `read_sheet` meets its contract: the first line, and the task lines behind it. Assumes nothing.
+-- `read_sheet` meets its contract: the first line, and the task lines behind it.
 use mathlib.Core.Path.{subst}
-use Rattle.sheet.specs.Read.{ReadsTick}
+use Rattle.sheet.specs.inside.Read.{ReadsTick}
 use Rattle.sheet.proofs.Fronts.{tick-stuck, front-none}
 use Rattle.sheet.proofs.Answers.{reads-sheet}
 use borrow.Author.Needs.{needs}

@@ -1,10 +1,10 @@
--- `read_task` meets its contract: the word, and the three numbers behind it. Assumes nothing.
+-- `read_task` meets its contract: the word, and the three numbers behind it.
 use mathlib.Core.Path.{subst}
-use Rattle.text.specs.Word.{word}
-use Rattle.reading.specs.Piece.{wordPiece, Passed}
-use Rattle.reading.specs.Read.{ReadsWord}
+use Rattle.decimal.specs.Word.{word}
+use Rattle.reading.specs.inside.Piece.{wordPiece, Passed}
+use Rattle.reading.specs.inside.Read.{ReadsWord}
 use Rattle.reading.proofs.Pieces.{stuck-first, alike-stuck}
-use Rattle.sheet.specs.Read.{timesPiece}
+use Rattle.sheet.specs.inside.Read.{timesPiece}
 use Rattle.sheet.proofs.Lines.{task-alike, one-time, reads-task}
 use borrow.Author.Needs.{needs}
 use Rattle.sheet.proofs.read_task.Statement.{statement}

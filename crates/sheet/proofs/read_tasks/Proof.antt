@@ -1,5 +1,5 @@
 -- `read_tasks` meets its contract. The loop's invariant: n tasks have been read and their rows stand at the front of the table, and behind
--- one of them the text goes on. Assumes nothing.
+-- one of them the text goes on.
 use mathlib.Core.Path.{subst}
 use mathlib.Core.List.{[], _∷_, _++_}
 use lib.ListN.{drop, length-append, length-drop}
@@ -7,9 +7,9 @@ use lib.Seq.{length-take-le}
 use borrow.Rule.Slice.PartMut.{putMid, same-len-mid}
 use Rattle.counting.proofs.Cases.{by-le}
 use Rattle.tables.specs.Table.{most-rows}
-use Rattle.reading.specs.Piece.{Passed}
+use Rattle.reading.specs.inside.Piece.{Passed}
 use Rattle.sheet.specs.Sheet.{ticksOf}
-use Rattle.sheet.specs.Read.{taskPiece, taskOf, ReadsTask, Filled}
+use Rattle.sheet.specs.inside.Read.{taskPiece, taskOf, ReadsTask, Filled}
 use Rattle.sheet.proofs.Fronts.{front-more, front-stuck, front-full}
 use Rattle.sheet.proofs.Ticks.{row-more}
 use Prim.Native.Nat.{ℕ, _≤_, _<_, _+_, _*_, _-_}

@@ -1,8 +1,8 @@
--- `read_tick` meets its contract: the word, and the number behind it. Assumes nothing.
+-- `read_tick` meets its contract: the word, and the number behind it.
 use mathlib.Core.Path.{subst}
-use Rattle.text.specs.Word.{word}
-use Rattle.reading.specs.Piece.{wordPiece, numberPiece, Passed}
-use Rattle.reading.specs.Read.{ReadsWord}
+use Rattle.decimal.specs.Word.{word}
+use Rattle.reading.specs.inside.Piece.{wordPiece, numberPiece, Passed}
+use Rattle.reading.specs.inside.Read.{ReadsWord}
 use Rattle.reading.proofs.Pieces.{stuck-first, alike-stuck}
 use Rattle.sheet.specs.Sheet.{longest-tick}
 use Rattle.sheet.proofs.Lines.{tick-alike, one-tick, reads-tick}

@@ -1,7 +1,7 @@
--- `read_times` meets its contract: three numbers, one behind the other. Assumes nothing.
+-- `read_times` meets its contract: three numbers, one behind the other.
 use mathlib.Core.Path.{subst}
-use Rattle.reading.specs.Piece.{Piece, numberPiece, both, Passed}
-use Rattle.reading.specs.Read.{ReadsNumber}
+use Rattle.reading.specs.inside.Piece.{Piece, numberPiece, both, Passed}
+use Rattle.reading.specs.inside.Read.{ReadsNumber}
 use Rattle.reading.proofs.Pieces.{stuck-first, stuck-second, passed-both}
 use Rattle.sheet.specs.Sheet.{longest-time}
 use Rattle.sheet.proofs.Lines.{one-time, code-spaced}

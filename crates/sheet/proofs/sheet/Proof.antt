@@ -1,11 +1,11 @@
--- `sheet` meets its contract: the text is read into a table of its own, and the table's front is given. Assumes nothing.
+-- `sheet` meets its contract: the text is read into a table of its own, and the table's front is given.
 use mathlib.Core.Path.{subst}
 use mathlib.Core.Logic.{inl, inr}
 use lib.ListN.{take, drop, replicate}
 use lib.Seq.{length-take-le}
 use Rattle.sheet.specs.Sheet.{ticksOf}
 use Rattle.sheet.specs.Answers.{sheet-form}
-use Rattle.sheet.specs.Read.{ReadsSheet}
+use Rattle.sheet.specs.inside.Read.{ReadsSheet}
 use Rattle.sheet.specs.declared.SheetRead.the-variants as whole
 use Rattle.sheet.proofs.Fronts.{place-bound}
 use Rattle.sheet.proofs.Answers.{ticks-rows, ticks-front}

@@ -1,13 +1,13 @@
--- `active_side` meets its contract. Assumes nothing.
+-- `active_side` meets its contract.
 use Prim.Native.Nat.{_≤_, _*_}
 use mathlib.Core.Path.{_≡_, ap}
 use native.Mathlib.Omega.{arith}
 use borrow.Author.Needs.{needs}
-use Rattle.marks.specs.Marks.{marked}
+use Rattle.marks.specs.inside.Marks.{marked}
 use Rattle.tables.specs.Table.{Table, Within}
-use Rattle.sides.specs.Asks.{askingIn}
-use Rattle.response.specs.Test.{before, load}
-use Rattle.response.proofs.Sides.{active-side-is}
+use Rattle.sides.specs.inside.Asks.{askingIn}
+use Rattle.test.specs.Test.{before, load}
+use Rattle.test.proofs.Sides.{active-side-is}
 use Rattle.sides.proofs.Small.{most-asked, part-small, load-small}
 use Rattle.sides.proofs.active_side.Statement.{statement}
 use Rattle.sides.proofs.active_side.Tie as tie

@@ -1,4 +1,4 @@
--- `asks_of` meets its contract: the rows passed have stored theirs, two numbers a row. Assumes nothing.
+-- `asks_of` meets its contract: the rows passed have stored theirs, two numbers a row.
 use Prim.Native.Nat.{_≤_, _-_}
 use mathlib.Core.Path.{_≡_, refl}
 use native.Mathlib.Omega.{arith}

@@ -1,11 +1,11 @@
--- `busy_side` meets its contract: the marks of all rows. Assumes nothing.
+-- `busy_side` meets its contract: the marks of all rows.
 use mathlib.Core.Path.{sym, _∙_}
 use borrow.Author.Tests.{ltb-true, lt-ltb}
 use borrow.Author.Needs.{needs}
-use Rattle.marks.specs.Marks.{marked}
-use Rattle.response.specs.Test.{before, every-row, busy-side}
-use Rattle.response.proofs.Load.{load-ext}
-use Rattle.sides.specs.Asks.{askingIn}
+use Rattle.marks.specs.inside.Marks.{marked}
+use Rattle.test.specs.Test.{before, every-row, busy-side}
+use Rattle.test.proofs.Load.{load-ext}
+use Rattle.sides.specs.inside.Asks.{askingIn}
 use Rattle.sides.proofs.busy_side.Statement.{statement}
 use Rattle.sides.proofs.busy_side.Tie as tie
 

@@ -1,12 +1,12 @@
--- `load` meets its contract: the walk over the marks sums each marked row once. Assumes nothing.
+-- `load` meets its contract: the walk over the marks sums each marked row once.
 use Prim.Native.Nat.{ℕ, _≤_, _<_, _*_}
 use mathlib.Core.Path.{ap}
 use native.Mathlib.Omega.{arith}
 use borrow.Author.Needs.{needs}
-use Rattle.marks.specs.Marks.{marked}
+use Rattle.marks.specs.inside.Marks.{marked}
 use Rattle.tables.specs.Table.{Table, Within}
-use Rattle.response.specs.Test.{before}
-use Rattle.sides.specs.Asks.{askingIn}
+use Rattle.test.specs.Test.{before}
+use Rattle.sides.specs.inside.Asks.{askingIn}
 use Rattle.sides.proofs.Walk.{Walked, walked-none, walked-more, walked-all}
 use Rattle.sides.proofs.Small.{part-small, load-small, most-asked}
 use Rattle.sides.proofs.load.Statement.{statement}

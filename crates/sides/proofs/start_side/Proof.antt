@@ -1,16 +1,16 @@
--- `start_side` meets its contract: what is asked for up to and with s is what is asked for before s + 1. Assumes nothing.
+-- `start_side` meets its contract: what is asked for up to and with s is what is asked for before s + 1.
 use Prim.Native.Nat.{_≤_, _+_, _*_}
 use mathlib.Core.Path.{ap}
 use native.Mathlib.Nat.{mul-le-mul, mul-le-mul-right}
 use native.Mathlib.Numerals.{add-one}
 use native.Mathlib.Omega.{arith}
 use borrow.Author.Needs.{needs}
-use Rattle.marks.specs.Marks.{marked}
+use Rattle.marks.specs.inside.Marks.{marked}
 use Rattle.tables.specs.Table.{Table}
-use Rattle.sides.specs.Asks.{askingIn}
-use Rattle.response.specs.Test.{before, load}
-use Rattle.response.proofs.Load.{sound-positive, load-upto}
-use Rattle.response.proofs.Sides.{start-side-is}
+use Rattle.sides.specs.inside.Asks.{askingIn}
+use Rattle.test.specs.Test.{before, load}
+use Rattle.test.proofs.Load.{sound-positive, load-upto}
+use Rattle.test.proofs.Sides.{start-side-is}
 use Rattle.sides.proofs.Small.{most-asked, load-small}
 use Rattle.sides.proofs.start_side.Statement.{statement}
 use Rattle.sides.proofs.start_side.Tie as tie

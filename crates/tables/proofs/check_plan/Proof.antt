@@ -1,4 +1,4 @@
--- `check_plan` meets its contract: no row passed is at fault. Assumes nothing.
+-- `check_plan` meets its contract: no row passed is at fault.
 use Prim.Native.Nat.{ℕ, _≤_, _<_, _-_}
 use mathlib.Core.Logic.{inl}
 use mathlib.Core.Path.{refl}
@@ -7,7 +7,7 @@ use borrow.Author.Count.{below-none, below-more}
 use borrow.Author.Needs.{needs}
 use Rattle.tables.specs.Plan.{planOf}
 use Rattle.tables.specs.Checks.{RowAtFault}
-use Rattle.tables.specs.Rows.{tableIn}
+use Rattle.tables.specs.inside.Rows.{tableIn}
 use Rattle.tables.proofs.Checked.{says-yes, says-no, plan-hit, plan-clear}
 use Rattle.tables.proofs.check_plan.Statement.{statement}
 use Rattle.tables.proofs.check_plan.Tie as tie

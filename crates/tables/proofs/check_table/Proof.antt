@@ -1,4 +1,4 @@
--- `check_table` meets its contract. Assumes nothing.
+-- `check_table` meets its contract.
 use Prim.Native.Nat.{_/_}
 use native.Mathlib.Omega.{arith}
 use lib.ListN.{length}

@@ -1,4 +1,4 @@
--- `first_outside` meets its contract: every number passed is within the limits. Assumes nothing.
+-- `first_outside` meets its contract: every number passed is within the limits.
 use Prim.Native.Nat.{ℕ, _≤_, _<_, _-_}
 use native.Mathlib.Omega.{arith}
 use lib.ListN.{length, getD}

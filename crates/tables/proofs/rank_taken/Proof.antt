@@ -1,4 +1,4 @@
--- `rank_taken` meets its contract: no row passed has the rank. Assumes nothing.
+-- `rank_taken` meets its contract: no row passed has the rank.
 use Prim.Native.Nat.{ℕ, _≤_, _<_, _*_, _-_}
 use mathlib.Core.Path.{_≡_}
 use native.Mathlib.Omega.{arith}

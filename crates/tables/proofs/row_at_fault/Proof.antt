@@ -1,4 +1,4 @@
--- `row_at_fault` meets its contract. Assumes nothing.
+-- `row_at_fault` meets its contract.
 use Prim.Native.Nat.{_*_}
 use mathlib.Core.Logic.{inl, inr, ⊎-elim}
 use native.Mathlib.Omega.{arith}

@@ -1,10 +1,10 @@
--- `rows_of` meets its contract: the array holds the rows passed, and zeros after them. Assumes nothing.
+-- `rows_of` meets its contract: the array holds the rows passed, and zeros after them.
 use Prim.Native.Nat.{_≤_, _-_}
 use mathlib.Core.Path.{_≡_, refl}
 use native.Mathlib.Omega.{arith}
 use lib.ListN.{length}
 use borrow.Author.Needs.{needs}
-use Rattle.tables.specs.Rows.{no}
+use Rattle.tables.specs.inside.Rows.{no}
 use Rattle.tables.proofs.Rows.{rowAt, Holds, holds-none, holds-more, table-rows}
 use Rattle.tables.proofs.rows_of.Statement.{statement}
 use Rattle.tables.proofs.rows_of.Tie as tie

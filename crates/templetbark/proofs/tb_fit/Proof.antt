@@ -1,7 +1,7 @@
 -- `tb_fit` meets its contract: it says what `fit` answers.
 use mathlib.Core.List.{[]}
 use borrow.Author.Needs.{needs}
-use Rattle.page.specs.Answers.{FitAnswer}
+use Rattle.printing.specs.Answers.{FitAnswer}
 use Rattle.templetbark.proofs.Said.{said}
 use Rattle.templetbark.proofs.tb_fit.Statement.{statement}
 use Rattle.templetbark.proofs.tb_fit.Tie as tie

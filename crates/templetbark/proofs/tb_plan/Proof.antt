@@ -1,6 +1,6 @@
 -- `tb_plan` meets its contract: it says what `plan` answers.
 use borrow.Author.Needs.{needs}
-use Rattle.ranks.specs.Answers.{PlanAnswer}
+use Rattle.choice.specs.Answers.{PlanAnswer}
 use Rattle.templetbark.proofs.Said.{said}
 use Rattle.templetbark.proofs.tb_plan.Statement.{statement}
 use Rattle.templetbark.proofs.tb_plan.Tie as tie

@@ -1,6 +1,6 @@
 -- `tb_print` meets its contract: it says what `print_into` answers.
 use borrow.Author.Needs.{needs}
-use Rattle.page.specs.Answers.{PrintAnswer}
+use Rattle.printing.specs.Answers.{PrintAnswer}
 use Rattle.templetbark.proofs.Said.{said}
 use Rattle.templetbark.proofs.tb_print.Statement.{statement}
 use Rattle.templetbark.proofs.tb_print.Tie as tie

@@ -1,6 +1,6 @@
 -- `tb_times` meets its contract: it says what `times` answers.
 use borrow.Author.Needs.{needs}
-use Rattle.response.specs.Answers.{TimesAnswer}
+use Rattle.test.specs.Answers.{TimesAnswer}
 use Rattle.templetbark.proofs.Said.{said}
 use Rattle.templetbark.proofs.tb_times.Statement.{statement}
 use Rattle.templetbark.proofs.tb_times.Tie as tie

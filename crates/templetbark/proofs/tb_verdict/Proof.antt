@@ -1,7 +1,7 @@
 -- `tb_verdict` meets its contract: it says what `verdict` answers.
 use mathlib.Core.List.{[]}
 use borrow.Author.Needs.{needs}
-use Rattle.response.specs.Answers.{VerdictAnswer}
+use Rattle.test.specs.Answers.{VerdictAnswer}
 use Rattle.templetbark.proofs.Said.{said}
 use Rattle.templetbark.proofs.tb_verdict.Statement.{statement}
 use Rattle.templetbark.proofs.tb_verdict.Tie as tie

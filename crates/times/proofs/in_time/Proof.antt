@@ -1,10 +1,10 @@
--- `in_time` meets its contract: every row passed is in time. Assumes nothing.
+-- `in_time` meets its contract: every row passed is in time.
 use Prim.Native.Nat.{ℕ, _≤_, _<_, _-_}
 use native.Mathlib.Omega.{arith}
 use lib.ListN.{getD}
 use borrow.Author.Count.{below-none, below-more}
 use borrow.Author.Needs.{needs}
-use Rattle.tables.specs.Rows.{tableIn}
+use Rattle.tables.specs.inside.Rows.{tableIn}
 use Rattle.times.proofs.in_time.Statement.{statement}
 use Rattle.times.proofs.in_time.Tie as tie
 

@@ -1,4 +1,4 @@
--- `times` meets its contract: the checks 1 and 3, then the rest over the rows. Assumes nothing.
+-- `times` meets its contract: the checks 1 and 3, then the rest over the rows.
 use Prim.Native.Nat.{ℕ, _*_}
 use mathlib.Core.Path.{subst, _≡_, sym}
 use mathlib.Core.List.{List}
@@ -7,10 +7,10 @@ use lib.ListN.{length}
 use borrow.Author.Needs.{needs}
 use Rattle.tables.specs.Table.{Sound, row-width, tableOf}
 use Rattle.tables.specs.Refusal.{Clear}
-use Rattle.tables.specs.Rows.{tableIn}
+use Rattle.tables.specs.inside.Rows.{tableIn}
 use Rattle.tables.specs.Answer.{resultOf}
 use Rattle.tables.specs.Checks.{shape, range}
-use Rattle.tables.specs.Checked.{TableChecked}
+use Rattle.tables.specs.inside.Checked.{TableChecked}
 use Rattle.tables.proofs.Clear.{sound-of-clear}
 use Rattle.times.proofs.Answers.{times-shape, times-range, times-rest}
 use Rattle.times.proofs.times.Statement.{statement}

@@ -1,15 +1,15 @@
--- `times_of` meets its contract: the checks 6, 2 and 4 in this order, then the responses. Assumes nothing.
+-- `times_of` meets its contract: the checks 6, 2 and 4 in this order, then the responses.
 use Prim.Native.Nat.{ℕ}
 use mathlib.Core.Path.{subst}
 use mathlib.Core.List.{List}
 use borrow.Author.Needs.{needs}
-use Rattle.response.specs.Test.{BusyWithin}
+use Rattle.test.specs.Test.{BusyWithin}
 use Rattle.tables.specs.Table.{Table}
 use Rattle.tables.specs.Refusal.{Clear}
-use Rattle.tables.specs.Rows.{tableIn}
+use Rattle.tables.specs.inside.Rows.{tableIn}
 use Rattle.tables.specs.Checks.{plan-form}
-use Rattle.tables.specs.Checked.{PlanChecked}
-use Rattle.periods.specs.Found.{BusyFound}
+use Rattle.tables.specs.inside.Checked.{PlanChecked}
+use Rattle.sides.specs.inside.Found.{BusyFound}
 use Rattle.times.proofs.Answers.{planned, times-plan, times-room, times-busy, times-given}
 use Rattle.times.proofs.times_of.Statement.{statement}
 use Rattle.times.proofs.times_of.Tie as tie

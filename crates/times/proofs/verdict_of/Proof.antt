@@ -1,15 +1,15 @@
--- `verdict_of` meets its contract: the checks 6 and 4 in this order, then the responses against the deadlines. Assumes nothing.
+-- `verdict_of` meets its contract: the checks 6 and 4 in this order, then the responses against the deadlines.
 use Prim.Native.Nat.{ℕ}
 use mathlib.Core.Path.{subst}
 use mathlib.Core.List.{List}
 use borrow.Author.Needs.{needs}
 use Rattle.tables.specs.Table.{Table}
 use Rattle.tables.specs.Refusal.{Clear}
-use Rattle.tables.specs.Rows.{tableIn}
+use Rattle.tables.specs.inside.Rows.{tableIn}
 use Rattle.tables.specs.Checks.{plan-form}
-use Rattle.tables.specs.Checked.{PlanChecked}
-use Rattle.response.specs.Test.{BusyWithin}
-use Rattle.periods.specs.Found.{BusyFound}
+use Rattle.tables.specs.inside.Checked.{PlanChecked}
+use Rattle.test.specs.Test.{BusyWithin}
+use Rattle.sides.specs.inside.Found.{BusyFound}
 use Rattle.tables.proofs.Checked.{says-yes, says-no}
 use Rattle.times.proofs.Answers.{planned, verdict-plan, verdict-busy, verdict-yes, verdict-no}
 use Rattle.times.proofs.verdict_of.Statement.{statement}

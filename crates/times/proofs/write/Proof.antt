@@ -1,9 +1,9 @@
--- `write` meets its contract: the rows passed are written, the others are as they were. Assumes nothing.
+-- `write` meets its contract: the rows passed are written, the others are as they were.
 use Prim.Native.Nat.{_≤_, _-_}
 use mathlib.Core.Path.{_≡_}
 use native.Mathlib.Omega.{arith}
 use borrow.Author.Needs.{needs}
-use Rattle.times.specs.Given.{Written}
+use Rattle.times.specs.inside.Given.{Written}
 use Rattle.times.proofs.Written.{written-none, written-more}
 use Rattle.times.proofs.write.Statement.{statement}
 use Rattle.times.proofs.write.Tie as tie

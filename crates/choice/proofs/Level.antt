@@ -1,0 +1,138 @@
+-- Laws of one level: what a length that fits is compared with, the shortest length exists, and one row at most takes a rank.
+use Prim.Native.Nat.{ℕ, zero, suc, _+_, _-_, _≤_, _<_}
+use mathlib.Core.Path.{_≡_, ap, sym, _∙_, subst}
+use mathlib.Core.Bool.{Bool, true, _&&_, not}
+use native.Mathlib.Omega.{arith}
+use lib.Dec.{eqb}
+use Rattle.counting.specs.Sum.{without}
+use Rattle.counting.specs.Least.{Least}
+use Rattle.counting.proofs.Cases.{by-le, by-eq}
+use Rattle.counting.proofs.Least.{least-map}
+use Rattle.tables.specs.Table.{Table}
+use Rattle.tables.specs.Plan.{cap}
+use Rattle.test.specs.Test.{before, load, Active}
+use Rattle.test.proofs.Load.{Positive, load-ext}
+use Rattle.test.proofs.Response.{response-exists, response-unique}
+use Rattle.test.proofs.Compare.{response-compare, response-longer}
+use Rattle.choice.specs.Choice.{Fits, Shortest, Takes, NoneFits}
+
+module _ (tb : Table) (pos : Positive tb) (z : ℕ) (l : z < tb .n) where
+  -- a length that fits goes on fitting where the level asks for no more
+  pub fits-compare : (P P′ : ℕ → Bool) (b b′ q : ℕ) → 1 ≤ q → q ≤ cap tb z →
+      ((t : ℕ) → 1 ≤ t → b + load before tb P t ≤ b′ + load before tb P′ t) →
+      Fits tb P′ b′ z q → Fits tb P b z q
+  fits-compare P P′ b b′ q some most le f =
+      let r =
+      response-compare tb tb P P′ b b′ z pos pos l l (omega arith) (omega arith) le q (f .R) some most (f .response) in
+      record { R = r .0; response = r .1; within = omega (arith, r .2, f .within) }
+
+  module _ (P : ℕ → Bool) (b : ℕ) where
+    -- the lengths that fit are closed upward
+    pub fits-longer : (q q′ : ℕ) → 1 ≤ q → q ≤ q′ → q′ ≤ cap tb z → Fits tb P b z q → Fits tb P b z q′
+    fits-longer q q′ some le most f =
+        let e : q + (q′ - q) ≡ q′ = omega arith in
+        let r = response-longer tb P b z pos l q (q′ - q) some (omega arith) (f .R) (f .response) in
+        subst (Fits tb P b z) e (record { R = r .0; response = r .1; within = omega (arith, r .2, f .within) })
+
+    -- within an active period a length fits or it does not
+    pub fits-or-not {ℓ} : {X : Type ℓ} (L : ℕ) → Active tb P b z L → (q : ℕ) → 1 ≤ q → q ≤ cap tb z →
+        (Fits tb P b z q → X) → (¬ Fits tb P b z q → X) → X
+    fits-or-not L a q some most fit miss =
+        let r = response-exists tb P b z q pos l some most L a in
+        by-le (r .0) (tb .D z)
+        (λ h. fit (record { R = r .0; response = r .1; within = h }))
+        (λ h. miss (λ f. absurd (omega (arith, f .within, response-unique tb P b z q (r .0) (f .R) (r .1) (f .response)))))
+
+    -- where a length fits there is a shortest, and no later: go down from it
+    pub least-fit : (k q : ℕ) → q ≤ k → 1 ≤ q → q ≤ cap tb z → Fits tb P b z q → (m : ℕ) × Least (λ l. (l ≤ cap tb z) × Fits tb P b z l) 1 m × (m ≤ q)
+    least-fit zero q h some most f = absurd (omega arith)
+    least-fit (suc k) q h some most f =
+        by-eq q 1
+        (λ e. (q, record { low = some; holds = (most, f); least = λ u a _. omega arith }, omega arith))
+        (λ e.
+        fits-or-not (f .response .period) (f .response .active) (q - 1) (omega arith) (omega arith)
+        (λ y. let r = least-fit k (q - 1) (omega arith) (omega arith) (omega arith) y in (r .0, r .1, omega (arith, r .2)))
+        (λ n. (
+          q,
+          record {
+            low = some;
+            holds = (most, f);
+            least =
+                λ u a g.
+                by-le q u (λ x. x) (λ x. absurd (n (fits-longer u (q - 1) a (omega arith) (omega arith) (g .1))));
+          },
+          omega arith,
+        )))
+
+-- the row that takes a rank, against any length that fits of any row that is tried
+pub takes-least : (tb : Table) (U : ℕ → Bool) (b : ℕ) (tried : ℕ → Bool) (y q z l : ℕ) → Positive tb → Takes tb U b tried y q →
+    z < tb .n → tried z ≡ true → 1 ≤ l → l ≤ cap tb z → Fits tb (without U z) b z l → (q ≤ l) × (q ≡ l → y ≤ z)
+takes-least tb U b tried y q z l pos t g e some most f =
+    let s = least-fit tb pos z g (without U z) b l l (omega arith) some most f in
+    let le = t .least z (s .0) g e (s .1) in (
+      omega (arith, s .2),
+      λ same.
+          by-le y z (λ h. h)
+          (λ h.
+          let m : s .0 ≡ q = omega (arith, s .2) in
+          absurd (t .earliest z h e (subst (Shortest tb U b z) m (s .1)))),
+    )
+
+-- one row at most takes a rank, with one length
+pub takes-unique : (tb : Table) (U : ℕ → Bool) (b : ℕ) (tried : ℕ → Bool) (y q y′ q′ : ℕ) →
+    Takes tb U b tried y q → Takes tb U b tried y′ q′ → (y ≡ y′) × (q ≡ q′)
+takes-unique tb U b tried y q y′ q′ t t′ =
+    let a = t .least y′ q′ (t′ .row) (t′ .try) (t′ .shortest) in
+    let c = t′ .least y q (t .row) (t .try) (t .shortest) in
+    let e : q ≡ q′ = omega arith in
+    let no : ¬ (y < y′) = λ h. t′ .earliest y h (t .try) (subst (Shortest tb U b y) e (t .shortest)) in
+    let no′ : ¬ (y′ < y) = λ h. t .earliest y′ h (t′ .try) (subst (Shortest tb U b y′) (sym e) (t′ .shortest)) in
+    (by-le y y′ (λ h. by-le y′ y (λ g. omega arith) (λ g. absurd (no g))) (λ h. absurd (no′ h)), e)
+
+-- two levels that differ in nothing below n
+pub record Alike (tb : Table) (U U′ : ℕ → Bool) (b b′ : ℕ) : Type 0 where
+  pub rows : (j : ℕ) → j < tb .n → U j ≡ U′ j
+  pub blocking : b ≡ b′
+
+pub alike-sym : {tb : Table} {U U′ : ℕ → Bool} {b b′ : ℕ} → Alike tb U U′ b b′ → Alike tb U′ U b′ b
+alike-sym a = record { rows = λ j l. sym (a .rows j l); blocking = sym (a .blocking) }
+
+module _ (tb : Table) (pos : Positive tb) (U U′ : ℕ → Bool) (b b′ : ℕ) (same : Alike tb U U′ b b′) where
+  pub fits-alike : (z q : ℕ) → z < tb .n → 1 ≤ q → q ≤ cap tb z → Fits tb (without U z) b z q → Fits tb (without U′ z) b′ z q
+  fits-alike z q l some most f =
+      fits-compare tb pos z l (without U′ z) (without U z) b′ b q some most
+      (λ t _.
+      omega (
+        arith,
+        same .blocking,
+        load-ext tb before (without U z) (without U′ z) (λ j g. ap (λ x. x && not (eqb j z)) (same .rows j g)) t,
+      ))
+      f
+
+pub shortest-alike : (tb : Table) (U U′ : ℕ → Bool) (b b′ z q : ℕ) → Positive tb → Alike tb U U′ b b′ → z < tb .n →
+    Shortest tb U b z q → Shortest tb U′ b′ z q
+shortest-alike tb U U′ b b′ z q pos same l s =
+    least-map
+    (λ u a f. (f .0, fits-alike tb pos U U′ b b′ same z u l a (f .0) (f .1)))
+    (λ u a f. (f .0, fits-alike tb pos U′ U b′ b (alike-sym same) z u l a (f .0) (f .1)))
+    s
+
+pub takes-alike : (tb : Table) (U U′ : ℕ → Bool) (b b′ y q : ℕ) → Positive tb → Alike tb U U′ b b′ →
+    Takes tb U b U y q → Takes tb U′ b′ U′ y q
+takes-alike tb U U′ b b′ y q pos same t =
+    record {
+      row = t .row;
+      try = sym (same .rows y (t .row)) ∙ t .try;
+      shortest = shortest-alike tb U U′ b b′ y q pos same (t .row) (t .shortest);
+      least =
+          λ z l g e s.
+          t .least z l g (same .rows z g ∙ e) (shortest-alike tb U′ U b′ b z l pos (alike-sym same) g s);
+      earliest =
+          λ z h e s.
+          let g : z < tb .n = omega (arith, t .row) in
+          t .earliest z h (same .rows z g ∙ e) (shortest-alike tb U′ U b′ b z q pos (alike-sym same) g s);
+    }
+
+pub none-alike : (tb : Table) (U U′ : ℕ → Bool) (b b′ : ℕ) → Positive tb → Alike tb U U′ b b′ → NoneFits tb U b U → NoneFits tb U′ b′ U′
+none-alike tb U U′ b b′ pos same none z q l e some most f =
+    none z q l (same .rows z l ∙ e) some most (fits-alike tb pos U′ U b′ b (alike-sym same) z q l some most f)

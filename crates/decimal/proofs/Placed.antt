@@ -1,0 +1,73 @@
+-- Laws of a text in a buffer: its length, one text behind another, and that what was put is settled.
+use Prim.Native.Nat.{ℕ, suc, _+_, _≤_, _<_}
+use mathlib.Core.Path.{_≡_, sym, ap, _∙_}
+use mathlib.Core.List.{List, [], _∷_, _++_, append-assoc}
+use native.Mathlib.Omega.{arith}
+use native.Mathlib.Numerals.{add-one}
+use lib.ListN.{length, take, drop, set, length-append, length-drop}
+use lib.Seq.{length-take-le, paste-zero, take-append-le, take-take, take-at, drop-at, drop-drop, set-split}
+use Rattle.decimal.specs.inside.Placed.{placed, Put}
+
+-- one byte
+pub placed-byte : (b : List ℕ) (at v : ℕ) → at < length b → set b at v ≡ placed b at (v ∷ [])
+placed-byte b at v h = set-split b at v h ∙ rw (append-assoc, add-one)
+
+module _ (b : List ℕ) (at : ℕ) (t : List ℕ) (fits : at + length t ≤ length b) where
+  front-length : length (take at b ++ t) ≡ at + length t
+  front-length = length-append (take at b) t ∙ ap (λ (n : ℕ). n + length t) (length-take-le at b (omega arith))
+
+  pub length-placed : length (placed b at t) ≡ length b
+  length-placed =
+      let e = length-append (take at b ++ t) (drop (at + length t) b) in
+      omega (arith, front-length, length-drop (at + length t) b)
+
+  -- a text u behind the text t
+  pub placed-behind : (u : List ℕ) → placed (placed b at t) (at + length t) u ≡ placed b at (t ++ u)
+  placed-behind u =
+      let n = at + length t in
+      let d : drop (n + length u) (placed b at t) ≡ drop (n + length u) b =
+      sym (drop-drop (length u) n (placed b at t))
+      ∙ ap (drop (length u)) (drop-at (take at b ++ t) (drop n b) n front-length)
+      ∙ drop-drop (length u) n b in
+      let e : n + length u ≡ at + length (t ++ u) = (let l = length-append t u in omega arith) in
+      ap (λ (l : List ℕ). l ++ u ++ drop (n + length u) (placed b at t)) (take-at (take at b ++ t) (drop n b) n front-length)
+      ∙ ap (λ (l : List ℕ). take at b ++ t ++ u ++ l) d
+      ∙ rw (e, append-assoc (take at b) t u)
+
+-- a byte before the text t
+pub placed-before : (b : List ℕ) (at v : ℕ) (t : List ℕ) → at + 1 + length t ≤ length b →
+    set (placed b (at + 1) t) at v ≡ placed b at (v ∷ t)
+placed-before b at v t fits =
+    let n : length (take (at + 1) b) ≡ at + 1 = length-take-le (at + 1) b (omega arith) in
+    let more = t ++ drop (at + 1 + length t) b in
+    let e : placed b (at + 1) t ≡ take (at + 1) b ++ more = append-assoc (take (at + 1) b) t (drop (at + 1 + length t) b) in
+    let front : take at (take (at + 1) b ++ more) ≡ take at b =
+    take-append-le at (take (at + 1) b) more (omega arith) ∙ take-take at (at + 1) b (omega arith) in
+    let rest : drop (suc at) (take (at + 1) b ++ more) ≡ more = drop-at (take (at + 1) b) more (suc at) (n ∙ add-one at) in
+    let m : at + 1 + length t ≡ at + length (v ∷ t) = omega arith in
+    set-split (placed b (at + 1) t) at v (omega (arith, length-placed b (at + 1) t fits))
+    ∙ rw (e, front, rest, m, append-assoc)
+
+-- a text put behind a text that was put
+pub put-behind : {b t c u d : List ℕ} {at m n : ℕ} → at + length t ≤ length b → Put b at t c m → Put c m u d n → Put b at (t ++ u) d n
+put-behind {b} {t} {c} {u} {d} {at} {m} {n} fits p q =
+    record {
+      behind = q .behind ∙ ap (λ (k : ℕ). k + length u) (p .behind) ∙ (let e = length-append t u in omega arith);
+      whole =
+          q .whole
+          ∙ ap (λ (l : List ℕ). placed l m u) (p .whole)
+          ∙ ap (λ (k : ℕ). placed (placed b at t) k u) (p .behind)
+          ∙ placed-behind b at t fits u;
+    }
+
+-- nothing put
+pub put-none : (b : List ℕ) (at : ℕ) → Put b at [] b at
+put-none b at = record { behind = omega arith; whole = paste-zero b at [] }
+
+-- what fits with more behind it
+pub fits-front : (at : ℕ) (t u : List ℕ) {n : ℕ} → at + length (t ++ u) ≤ n → at + length t ≤ n
+fits-front at t u h = omega (arith, length-append t u)
+
+-- any two buffers and places are equal
+pub put-unique : {b t c d : List ℕ} {at m n : ℕ} → Put b at t c m → Put b at t d n → (c ≡ d) × (m ≡ n)
+put-unique p q = (p .whole ∙ sym (q .whole), p .behind ∙ sym (q .behind))

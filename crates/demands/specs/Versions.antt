@@ -1,0 +1,103 @@
+-- Wrong versions of plan, each of which breaks the promise on a table that is named here: document 01, "What the
+-- manual may rely on" and "Shortcuts that give a wrong manual".
+use Prim.Native.Nat.{ℕ, _*_, _/_, _%_, _≤_, _<_}
+use mathlib.Core.Path.{_≡_}
+use mathlib.Core.Logic.{_↔_}
+use mathlib.Core.List.{List, [], _∷_}
+use lib.ListN.{length, getD}
+use Rattle.counting.specs.Up.{up}
+use Rattle.counting.specs.Sum.{sum}
+use Rattle.tables.specs.Table.{Sound, tableOf, row-width}
+use Rattle.tables.specs.Refusal.{Result}
+use Rattle.choice.specs.Answers.{PlanAnswer, planned-width, plannedOf}
+use Rattle.starred.specs.Figures.{second-table, third-table, three-rows, overloaded-table, urgent-first, three-thirds, one-tick-over}
+
+-- a version of plan: a task table and a lent output to what it answers and leaves
+abbrev pub Version : Type 0
+Version = List ℕ → List ℕ → Result
+
+-- "slices of 32-bit numbers": what a program can be lent, every number below 2^32
+abbrev pub Words : List ℕ → Type 0
+Words xs = (i : ℕ) → i < length xs → getD xs i 0 < 4294967296
+
+-- what holds of every task table and output of 32-bit numbers
+abbrev pub Always : (List ℕ → List ℕ → Type 0) → Type 0
+Always Holds = (xs out : List ℕ) → Words xs → Words out → Holds xs out
+
+-- "refuses everything": for every table and output its answer is some refusal
+abbrev pub RefusesEverything : Version → Type 0
+RefusesEverything f = Always (λ xs out. 1 ≤ f xs out .number)
+
+-- "gives a fixed plan": two tables of as many rows that it plans get the same ranks and lengths, whatever the
+-- responses beside them and whatever stands behind
+abbrev pub GivesAFixedPlan : Version → Type 0
+GivesAFixedPlan f =
+    Always (λ xs out. Always (λ ys lent.
+    f xs out .number ≡ 0 → f ys lent .number ≡ 0 → tableOf xs .n ≡ tableOf ys .n →
+    (i : ℕ) → i < tableOf xs .n →
+    let p = plannedOf (f xs out .out) in
+    let q = plannedOf (f ys lent .out) in
+    (p .rank i ≡ q .rank i) × (p .len i ≡ q .len i)))
+
+-- "leaves the output untouched": whatever it answers, the output is as it was lent
+abbrev pub LeavesTheOutput : Version → Type 0
+LeavesTheOutput f = Always (λ xs out. f xs out .out ≡ out)
+
+-- against "Nothing lent is written": where it refuses, an output that has a place is not as it was lent
+abbrev pub WritesOnARefusal : Version → Type 0
+WritesOnARefusal f = Always (λ xs out. 1 ≤ f xs out .number → 1 ≤ length out → f xs out .out ≡ out → ⊥)
+
+-- "searches at rank n only": in every table that it plans the rows that do not have rank n have the other ranks in
+-- table order, from the highest rank on or from the lowest
+abbrev pub SearchesTheLowestOnly : ((ℕ → ℕ) → ℕ → ℕ → Type 0) → Version → Type 0
+SearchesTheLowestOnly Ordered f =
+    Always (λ xs out.
+    f xs out .number ≡ 0 →
+    let n = tableOf xs .n in
+    let rank = plannedOf (f xs out .out) .rank in
+    (i j : ℕ) → i < j → j < n → rank i < n → rank j < n → Ordered rank i j)
+
+-- "priorities by deadline first": in every table that it plans the smaller of two deadlines has the higher rank
+abbrev pub RanksByDeadline : Version → Type 0
+RanksByDeadline f =
+    Always (λ xs out.
+    f xs out .number ≡ 0 →
+    let tb = tableOf xs in
+    let rank = plannedOf (f xs out .out) .rank in
+    (i j : ℕ) → i < tb .n → j < tb .n → tb .D i < tb .D j → rank i < rank j)
+
+-- "a sum of rounded utilisations": each C/T in parts of a whole (100 for percent), rounded up or down, and 4, where
+-- the earlier checks are clear, exactly if the sum is more than the whole
+abbrev pub RefusesByUtilisation : (ℕ → ℕ → ℕ) → ℕ → Version → Type 0
+RefusesByUtilisation rounded whole f =
+    Always (λ xs out.
+    let tb = tableOf xs in
+    length xs ≡ row-width * tb .n → Sound tb → planned-width * tb .n ≤ length out →
+    (f xs out .number ≡ 4) ↔ (whole < sum (λ i. rounded (whole * tb .C i) (tb .T i)) (tb .n)))
+
+-- outputs with room for two rows, and for three
+abbrev pub six : List ℕ
+six = 0 ∷ 0 ∷ 0 ∷ 0 ∷ 0 ∷ 0 ∷ []
+
+abbrev pub nine : List ℕ
+nine = 0 ∷ 0 ∷ 0 ∷ six
+
+-- what the version answers for this table and leaves in this output is not what the promise allows
+abbrev pub BreaksOn : List ℕ → List ℕ → Version → Type 0
+BreaksOn xs out f = PlanAnswer xs out (f xs out) → ⊥
+
+-- of two tables, each with its output, it breaks the promise on one
+abbrev pub BreaksOnOneOf : List ℕ → List ℕ → List ℕ → List ℕ → Version → Type 0
+BreaksOnOneOf xs out ys lent f = PlanAnswer xs out (f xs out) → BreaksOn ys lent f
+
+-- every one of them breaks the promise, on this table
+pub record AllRefuted : Type 0 where
+  pub refuses : (f : Version) → RefusesEverything f → BreaksOn second-table six f
+  pub fixed : (f : Version) → GivesAFixedPlan f → BreaksOnOneOf second-table six third-table six f
+  pub untouched : (f : Version) → LeavesTheOutput f → BreaksOn second-table six f
+  pub written : (f : Version) → WritesOnARefusal f → BreaksOn overloaded-table six f
+  pub lowest-only : (f : Version) → SearchesTheLowestOnly (λ rank i j. rank i < rank j) f → BreaksOn three-rows nine f
+  pub lowest-only-down : (f : Version) → SearchesTheLowestOnly (λ rank i j. rank j < rank i) f → BreaksOn urgent-first nine f
+  pub by-deadline : (f : Version) → RanksByDeadline f → BreaksOn three-rows nine f
+  pub rounded-up : (f : Version) (whole : ℕ) → (whole % 3 ≡ 0 → ⊥) → RefusesByUtilisation up whole f → BreaksOn three-thirds nine f
+  pub rounded-down : (f : Version) (whole : ℕ) → whole < 1000000 → RefusesByUtilisation _/_ whole f → BreaksOn one-tick-over six f

@@ -1,3 +1,0 @@
--- The definitions of the crate `desk`.
-pub mod Reply
-pub mod Input

@@ -1,4 +1,0 @@
--- The definitions of the crate `page`.
-pub mod Printed
-pub mod Answers
-pub mod Rows

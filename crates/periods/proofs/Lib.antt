@@ -1,3 +1,0 @@
--- The laws of the crate `periods`.
-pub mod Lower
-pub mod Unique

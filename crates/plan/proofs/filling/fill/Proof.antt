@@ -1,0 +1,188 @@
+-- `fill` meets its contract: each turn places the row that takes the rank, and the rank is the number of rows left.
+use Prim.Native.Nat.{ℕ, _<_}
+use mathlib.Core.Path.{sym, subst}
+use native.Mathlib.Nat.{pos-of-ne-zero}
+use native.Mathlib.Omega.{arith}
+use lib.ListN.{set}
+use borrow.Author.Needs.{needs}
+use Rattle.counting.specs.Sum.{without}
+use Rattle.marks.specs.inside.Marks.{marked}
+use Rattle.marks.proofs.Marks.{count-something}
+use Rattle.tables.specs.Table.{Table}
+use Rattle.tables.specs.inside.Rows.{tableIn}
+use Rattle.test.specs.Test.{Response}
+use Rattle.test.proofs.Load.{Positive, sound-positive}
+use Rattle.choice.specs.Choice.{Takes}
+use Rattle.search.specs.inside.Choose.{Picked}
+use Rattle.plan.proofs.Going.{Going, rank, put, going-first, going-room, going-stops, going-ends, going-more}
+use Rattle.plan.proofs.filling.fill.Statement.{statement}
+use Rattle.plan.proofs.filling.fill.Tie as tie
+
+abbrev Inv-loop : tie.InvT-loop
+Inv-loop rows n plan₀ times₀ unplaced₀ blocking₀ plan times unplaced blocking = Going (tableIn rows n) plan times unplaced blocking
+
+abbrev μ-loop : tie.MeasureT-loop
+μ-loop rows n plan₀ times₀ unplaced₀ blocking₀ plan times unplaced blocking = unplaced
+
+-- ---- the level that is searched
+module _ (c : tie.At-loop Inv-loop μ-loop) where
+  abbrev tb : Table
+  tb = tableIn (c .before .before .args .rows) (c .before .before .args .n)
+
+  abbrev b : ℕ
+  b = c .loop .blocking
+
+  abbrev U : ℕ
+  U = c .loop .unplaced
+
+  pos : Positive tb
+  pos = sound-positive tb (c .before .before .pre .0)
+
+-- ---- the row that takes the rank
+module _ (c : tie.After-known-told Inv-loop μ-loop) where
+  abbrev S : tie.After-choose Inv-loop μ-loop
+  S = c .before .before .before
+
+  abbrev A : tie.At-loop Inv-loop μ-loop
+  A = S .before .before .before
+
+  abbrev y : ℕ
+  y = c .before .pick .given .0 .0
+
+  abbrev q : ℕ
+  q = c .before .pick .given .0 .1 .0
+
+  abbrev R : ℕ
+  R = c .before .pick .given .0 .1 .1 .0
+
+  picked : Takes (tb A) (marked (U A)) (b A) (marked (U A)) y q × Response (tb A) (without (marked (U A)) y) (b A) y q R
+  picked = subst (Picked (tb A) (marked (U A)) (b A) (marked (U A))) (c .before .pick .given .1) (S .choose .ensures)
+
+  inside : y < 32
+  inside = omega (arith, picked .0 .row, A .before .before .pre .0 .few)
+
+cast-whole : tie.Need-cast-whole Inv-loop μ-loop
+cast-whole c = search needs
+
+whole-requires : tie.Need-whole-requires Inv-loop μ-loop
+whole-requires c κs = search needs
+
+loop-holds : tie.Need-loop-holds Inv-loop μ-loop
+loop-holds c = let s = c .before in going-first (tableIn (s .args .rows) (s .args .n)) (s .pre .0) (c .whole .result) (c .whole .ensures)
+
+size-requires : tie.Need-size-requires Inv-loop μ-loop
+size-requires c κs = search needs
+
+choose-requires : tie.Need-choose-requires Inv-loop μ-loop
+choose-requires c κs =
+    let a = c .before .before in
+    let s = a .before .before in
+    record {
+      sound = s .pre .0;
+      inside = a .loop .inv .inside;
+      some = pos-of-ne-zero (c .before .loop-test .taken);
+      among = λ j e. e;
+      busy = s .pre .1;
+      room = going-room (tb a) (pos a) (a .loop .plan) (a .loop .times) (U a) (b a) (a .loop .inv);
+    }
+
+enum-known-pick : tie.Need-enum-known-pick Inv-loop μ-loop
+enum-known-pick c = search needs
+
+enum-told : tie.Need-enum-told Inv-loop μ-loop
+enum-told c = search needs
+
+returns : tie.Need-returns Inv-loop μ-loop
+returns c =
+    let d = c .before .before in
+    let a = d .before .before .before in
+    going-stops (tb a) (pos a) (a .loop .plan) (a .loop .times) (U a) (b a) (a .loop .inv) (d .before .size .result) (d .before .size .ensures)
+    (count-something (U a) 32 (pos-of-ne-zero (d .before .before .loop-test .taken)) (λ j m. omega (arith, a .loop .inv .inside j m, a .before .before .pre .0 .few)))
+    (subst (Picked (tb a) (marked (U a)) (b a) (marked (U a))) (c .enum-told .given .1) (d .choose .ensures))
+
+cast-i : tie.Need-cast-i Inv-loop μ-loop
+cast-i c = search needs
+
+mul-at : tie.Need-mul-at Inv-loop μ-loop
+mul-at c = search needs
+
+mul-plan : tie.Need-mul-plan Inv-loop μ-loop
+mul-plan c = search needs
+
+array-write-plan : tie.Need-array-write-plan Inv-loop μ-loop
+array-write-plan c = omega (arith, inside c)
+
+add-plan : tie.Need-add-plan Inv-loop μ-loop
+add-plan c = search needs
+
+mul-plan-2 : tie.Need-mul-plan-2 Inv-loop μ-loop
+mul-plan-2 c = search needs
+
+array-write-plan-2 : tie.Need-array-write-plan-2 Inv-loop μ-loop
+array-write-plan-2 c = omega (arith, inside c)
+
+mul-times : tie.Need-mul-times Inv-loop μ-loop
+mul-times c = search needs
+
+array-write-times : tie.Need-array-write-times Inv-loop μ-loop
+array-write-times c = omega (arith, inside c)
+
+sub-larger : tie.Need-sub-larger Inv-loop μ-loop
+sub-larger c = omega (arith, picked c .0 .shortest .low)
+
+cast-larger : tie.Need-cast-larger Inv-loop μ-loop
+cast-larger c = search needs
+
+larger-requires : tie.Need-larger-requires Inv-loop μ-loop
+larger-requires c κs = search needs
+
+less-requires : tie.Need-less-requires Inv-loop μ-loop
+less-requires c κs = (inside (c .before), picked (c .before) .0 .try)
+
+loop-less : tie.Need-loop-less Inv-loop μ-loop
+loop-less c = c .less .ensures .smaller
+
+loop-again : tie.Need-loop-again Inv-loop μ-loop
+loop-again c =
+    let d = c .before .before in
+    let a = A d in
+    let next = going-more (tb a) (pos a) (a .loop .plan) (a .loop .times) (U a) (b a) (a .loop .inv) (y d) (q d) (R d) (c .less .result) (inside d)
+    (picked d .0) (picked d .1) (c .less .ensures) in
+    subst (λ (r : ℕ). Going (tb a) (put (a .loop .plan) r (y d) (q d)) (set (a .loop .times) (y d) (R d)) (c .less .result) (c .before .larger .result)) (sym (S d .before .size .ensures))
+    (subst (λ (x : ℕ). Going (tb a) (put (a .loop .plan) (rank (U a)) (y d) (q d)) (set (a .loop .times) (y d) (R d)) (c .less .result) x) (sym (c .before .larger .ensures)) next)
+
+returns-2 : tie.Need-returns-2 Inv-loop μ-loop
+returns-2 c =
+    let a = c .before in
+    going-ends (tb a) (pos a) (a .loop .plan) (a .loop .times) (U a) (b a) (a .loop .inv) (c .loop-test .left)
+
+pub fill-spec : {M : Type 1} → statement M
+fill-spec =
+    tie.close
+    (tie.spec
+    Inv-loop
+    μ-loop
+    cast-whole
+    whole-requires
+    loop-holds
+    size-requires
+    choose-requires
+    enum-known-pick
+    enum-told
+    returns
+    cast-i
+    mul-at
+    mul-plan
+    array-write-plan
+    add-plan
+    mul-plan-2
+    array-write-plan-2
+    mul-times
+    array-write-times
+    sub-larger
+    cast-larger
+    larger-requires
+    less-requires
+    loop-less
+    loop-again
+    returns-2)

@@ -1,0 +1,3 @@
+-- What the functions of `plan` promise each other: no public promise rests on it.
+pub mod Given
+pub mod Ended

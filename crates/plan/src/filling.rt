@@ -1,0 +1,50 @@
+// The ranks filled from n down to 1: one search a rank, until every row is placed or no row has a passing length.
+ghost use Rattle.tables.specs.Table.{Sound};
+ghost use Rattle.tables.specs.inside.Rows.{tableIn};
+ghost use Rattle.test.specs.Test.{BusyWithin};
+ghost use Rattle.plan.specs.inside.Ended.{Ended};
+use search::Pick;
+use tables::PLAN_WIDTH;
+use tables::Row;
+
+// The plan, two numbers a row as `times` takes it; each row's response; and the rank at which no row had a passing length, 0 where every
+// rank was filled. Nothing of a plan that is not whole goes out.
+pub struct Filling {
+    pub stopped: u32,
+    pub plan: [u32; 64],
+    pub times: [u32; 32],
+}
+
+// The rank being filled is the number of rows that are not placed. The rows to try are these rows.
+pub fn fill(rows: [Row; 32], n: usize) -> Filling
+    requires { ⌜ Sound (tableIn rows n) × BusyWithin (tableIn rows n) ⌝ }
+    ensures { λ r. ⌜ Ended (tableIn rows n) r ⌝ }
+{
+    let mut plan = [0u32; 64];
+    let mut times = [0u32; 32];
+    let mut unplaced = marks::whole(n as u32);
+    let mut blocking: u64 = 0;
+    while unplaced != 0 {
+        let rank = marks::size(unplaced);
+        let pick = search::choose(rows, n, unplaced, unplaced, blocking);
+        let Pick::Taken(row, len, response) = pick else {
+            return Filling {
+                stopped: rank,
+                plan: [0u32; 64],
+                times: [0u32; 32],
+            };
+        };
+        let i = row as usize;
+        let at = PLAN_WIDTH * i;
+        plan[at] = rank;
+        plan[at + 1] = len;
+        times[i] = response;
+        blocking = search::larger(blocking, (len - 1) as u64);
+        unplaced = marks::less(unplaced, row);
+    }
+    Filling {
+        stopped: 0,
+        plan: plan,
+        times: times,
+    }
+}

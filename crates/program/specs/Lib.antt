@@ -1,0 +1,3 @@
+-- The definitions of the crate `desk`.
+pub mod Reply
+pub mod inside

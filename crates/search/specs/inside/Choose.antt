@@ -1,0 +1,29 @@
+-- What the search for one rank asks for and answers.
+use Prim.Native.Nat.{ℕ, _+_, _≤_, _<_}
+use mathlib.Core.Path.{_≡_}
+use mathlib.Core.Bool.{Bool, true}
+use mathlib.Core.List.{List}
+use Rattle.counting.specs.Sum.{without}
+use Rattle.marks.specs.inside.Marks.{marked}
+use Rattle.tables.specs.Table.{Table, Sound}
+use Rattle.tables.specs.inside.Rows.{tableIn}
+use Rattle.tables.specs.declared.Row.{Row}
+use Rattle.test.specs.Test.{before, load, busy-side, BusyWithin, Response}
+use Rattle.choice.specs.Choice.{Takes, NoneFits}
+use Rattle.search.specs.declared.Pick.{Pick}
+use Rattle.search.specs.declared.Pick.the-variants.{Taken, Nothing}
+
+-- a level of a table that has its busy period: some rows are unplaced, those to try are among them, and the blocking and what the
+-- unplaced rows ask for is never more than what all rows ask for
+pub record Searchable (rows : List Row) (n unplaced tried b : ℕ) : Type 0 where
+  pub sound : Sound (tableIn rows n)
+  pub inside : (j : ℕ) → marked unplaced j ≡ true → j < n
+  pub some : 0 < unplaced
+  pub among : (j : ℕ) → marked tried j ≡ true → marked unplaced j ≡ true
+  pub busy : BusyWithin (tableIn rows n)
+  pub room : (t : ℕ) → 1 ≤ t → b + load before (tableIn rows n) (marked unplaced) t ≤ busy-side (tableIn rows n) t
+
+-- "The row with the least shortest length takes the rank with that length", and R is its response there; or "no row has a passing length"
+abbrev pub Picked : Table → (ℕ → Bool) → ℕ → (ℕ → Bool) → Pick → Type 0
+Picked tb U b tried (Taken y q R) = Takes tb U b tried y q × Response tb (without U y) b y q R
+Picked tb U b tried Nothing = NoneFits tb U b tried

@@ -1,0 +1,156 @@
+-- Laws of a plan's rows: blocking, and that under a busy period within H every active period and every response exists, within it.
+use Prim.Native.Nat.{ℕ, pred, suc, _+_, _-_, _*_, _/_, _≤_, _<_}
+use mathlib.Core.Path.{_≡_, refl, ap, sym, _∙_, subst}
+use mathlib.Core.Bool.{Bool, true, false}
+use native.Mathlib.Omega.{arith}
+use lib.Dec.{leb, ltb}
+use borrow.Author.Tests.{ltb-true, ltb-false, leb-true, le-leb, lt-ltb}
+use Rattle.counting.specs.Sum.{given, without, largest}
+use Rattle.counting.proofs.Cases.{by-bool, not-both}
+use Rattle.counting.proofs.Sum.{without-intro, given-yes, given-no, largest-ge, largest-cases}
+use Rattle.counting.proofs.Least.{least-bound, least-unique}
+use Rattle.tables.specs.Table.{Table, Sound}
+use Rattle.tables.specs.Plan.{Plan, WellFormed, blocks}
+use Rattle.test.specs.Test.{horizon, before, upto, load, every-row, busy-side, BusyWithin, Active, active-side, Response, above, below, longest, blocking, ResponseOf}
+use Rattle.test.specs.Answers.{Bounded}
+use Rattle.test.proofs.Load.{Positive, sound-positive, load-sub, load-ext, load-without, run-asked}
+use Rattle.test.proofs.Compare.{response-alike}
+use Rattle.test.proofs.Sides.{active-side-is, active-side-mono, active-side-up, active-side-level}
+use Rattle.test.proofs.Response.{response-exists, response-high, response-low}
+
+module _ (tb : Table) (p : Plan) (r : ℕ) where
+  pub blocking-is : blocking tb p r ≡ pred (longest tb p r)
+  unfolding blocking
+  blocking-is = refl
+
+  -- no row below is longer than the longest
+  pub longest-ge : (j : ℕ) → j < tb .n → r < p .rank j → p .len j ≤ longest tb p r
+  unfolding longest
+  longest-ge j l h =
+      omega (
+        arith,
+        largest-ge (λ k. given (below p r k) (blocks p k)) (tb .n) j l,
+        given-yes (below p r j) (blocks p j) (lt-ltb r _ (omega arith)),
+      )
+
+  -- where there is something below, nothing is cut off
+  pub blocking-some : (j : ℕ) → j < tb .n → r < p .rank j → 1 ≤ p .len j → suc (blocking tb p r) ≡ longest tb p r
+  blocking-some j l h one = omega (arith, blocking-is, longest-ge j l h)
+
+  -- the longest is that of a row below, or there is none
+  pub longest-cases {ℓ} : {X : Type ℓ} → (longest tb p r ≡ 0 → X) → ((j : ℕ) → j < tb .n → r < p .rank j → longest tb p r ≡ p .len j → X) → X
+  unfolding longest
+  longest-cases none some =
+      largest-cases (λ j. given (below p r j) (blocks p j)) (tb .n) none
+      (λ j l e.
+      by-bool (below p r j)
+      (λ t. some j l (omega (arith, ltb-true r _ t)) (e ∙ given-yes (below p r j) (blocks p j) t))
+      (λ f. none (e ∙ given-no (below p r j) (blocks p j) f)))
+
+-- the blocking and the rows of U, none of them below r, ask for no more than all the rows
+pub room : (tb : Table) (p : Plan) (r : ℕ) (U : ℕ → Bool) → Positive tb →
+    ((j : ℕ) → j < tb .n → r < p .rank j → (U j ≡ false) × (p .len j ≤ tb .C j)) →
+    (t : ℕ) → 1 ≤ t → blocking tb p r + load before tb U t ≤ busy-side tb t
+unfolding busy-side
+room tb p r U pos out t h =
+    let all = load-sub tb before U every-row (λ _ _ _. refl) t in
+    longest-cases tb p r
+    (λ e. omega (arith, all, blocking-is tb p r))
+    (λ j l below e.
+    omega (
+      arith,
+      blocking-is tb p r,
+      out j l below .1,
+      load-sub tb before U (without every-row j)
+          (λ k _ u. without-intro every-row j k (λ q. not-both (U k) (ap U q ∙ out j l below .0) u) refl) t,
+      load-without tb before every-row j t l refl,
+      run-asked tb pos j t l h,
+    ))
+
+-- every active period of a level of U exists, within the busy period
+pub level-active : (tb : Table) (P : ℕ → Bool) (b i : ℕ) → Positive tb → i < tb .n → (w : BusyWithin tb) →
+    ((t : ℕ) → 1 ≤ t → active-side tb P b i t ≤ busy-side tb t) →
+    (L : ℕ) × Active tb P b i L × (L ≤ w .period)
+level-active tb P b i pos l w le =
+    let m = w .busy in
+    least-bound (active-side tb P b i) (active-side-mono tb P b i) 1 (active-side-up tb P b i pos l) (w .period) (m .low)
+    (omega (arith, le (w .period) (m .low), m .holds))
+
+module _ (tb : Table) (sound : Sound tb) (w : BusyWithin tb) (p : Plan) (wf : WellFormed tb p) (i : ℕ) (l : i < tb .n) where
+  abbrev P : ℕ → Bool
+  P = above p (p .rank i)
+
+  abbrev B : ℕ
+  B = blocking tb p (p .rank i)
+
+  -- the rows of no lower rank than i
+  abbrev level : ℕ → Bool
+  level j = leb (p .rank j) (p .rank i)
+
+  plan-side : (t : ℕ) → 1 ≤ t → active-side tb P B i t ≤ busy-side tb t
+  plan-side t h =
+      let pos = sound-positive tb sound in
+      omega (
+        arith,
+        room tb p (p .rank i) level pos
+            (λ j g lower. (by-bool (level j) (λ e. absurd (omega (arith, leb-true (p .rank j) (p .rank i) e))) (λ e. e), wf .len-high j g)) t h,
+        active-side-is tb P B i t,
+        active-side-is tb (without level i) B i t,
+        active-side-level tb level B i t l (le-leb (p .rank i) (p .rank i) (omega arith)),
+        load-sub tb before P (without level i)
+            (λ j _ e.
+            let lt = ltb-true (p .rank j) (p .rank i) e in
+            without-intro level i j (λ q. omega (arith, ap (p .rank) q)) (le-leb (p .rank j) (p .rank i) (omega arith))) t,
+      )
+
+  -- "every L of every well-formed plan exists and is at most H"
+  pub plan-active : (L : ℕ) × Active tb P B i L × (L ≤ horizon)
+  plan-active =
+      let r = level-active tb P B i (sound-positive tb sound) l w plan-side in
+      (r .0, r .1, omega (arith, r .2, w .within))
+
+  -- every response exists
+  pub plan-response : (R : ℕ) × ResponseOf tb p i R
+  plan-response =
+      let a = plan-active in
+      response-exists tb P B i (p .len i) (sound-positive tb sound) l (wf .len-low i l) (wf .len-high i l) (a .0) (a .1)
+
+  -- "and so is every R; R is never below C"
+  pub plan-bounded : (R : ℕ) → ResponseOf tb p i R → Bounded tb p i R
+  plan-bounded R x =
+      let a = plan-active in
+      let pos = sound-positive tb sound in
+      record {
+        period = a .0;
+        active = a .1;
+        within = a .2;
+        low = response-low tb P B i (p .len i) pos l (wf .len-low i l) (wf .len-high i l) R x;
+        high =
+            omega (
+              arith,
+              response-high tb P B i (p .len i) pos l (wf .len-low i l) (wf .len-high i l) R x,
+              least-unique (x .active) (a .1),
+              a .2,
+            );
+      }
+
+-- Two plans with the same ranks and lengths in the rows of the table have the same responses.
+module _ (tb : Table) (p p′ : Plan) (same : (j : ℕ) → j < tb .n → (p .rank j ≡ p′ .rank j) × (p .len j ≡ p′ .len j)) where
+  longest-same : (r : ℕ) → longest tb p r ≡ longest tb p′ r
+  longest-same r =
+      let up : longest tb p r ≤ longest tb p′ r =
+      longest-cases tb p r (λ e. omega arith) (λ j l h e. omega (arith, same j l, longest-ge tb p′ r j l (omega (arith, same j l)))) in
+      let down : longest tb p′ r ≤ longest tb p r =
+      longest-cases tb p′ r (λ e. omega arith) (λ j l h e. omega (arith, same j l, longest-ge tb p r j l (omega (arith, same j l)))) in
+      omega arith
+
+  pub plan-alike : (i R : ℕ) → Positive tb → i < tb .n → 1 ≤ p .len i → p .len i ≤ tb .C i → ResponseOf tb p i R → ResponseOf tb p′ i R
+  plan-alike i R pos l low high x =
+      let rank = same i l .0 in
+      let b = blocking-is tb p (p .rank i) ∙ ap pred (longest-same (p .rank i)) ∙ sym (blocking-is tb p′ (p .rank i)) in
+      subst (λ q. Response tb (above p′ (p′ .rank i)) (blocking tb p′ (p′ .rank i)) i q R) (same i l .1)
+      (subst (λ r. Response tb (above p′ r) (blocking tb p′ r) i (p .len i) R) rank
+      (response-alike tb (above p (p .rank i)) (above p′ (p .rank i)) (blocking tb p (p .rank i)) (blocking tb p′ (p .rank i)) i (p .len i) R pos l
+      low high
+      (λ t _. omega (arith, b, load-ext tb before (above p (p .rank i)) (above p′ (p .rank i)) (λ j g. ap (λ k. ltb k (p .rank i)) (same j g .0)) t))
+      x))

@@ -1,0 +1,41 @@
+-- Laws of the right sides of the active period and of the starts: they never fall, and nothing is cut off.
+use Prim.Native.Nat.{ℕ, suc, _+_, _-_, _*_, _/_, _≤_, _<_}
+use mathlib.Core.Path.{_≡_, refl, ap, sym, _∙_}
+use mathlib.Core.Bool.{Bool, true, false}
+use native.Mathlib.Omega.{arith}
+use native.Mathlib.Nat.{mul-le-mul-right}
+use Rattle.counting.specs.Sum.{without}
+use Rattle.counting.proofs.Up.{up-mono}
+use Rattle.counting.proofs.Least.{Mono}
+use Rattle.tables.specs.Table.{Table}
+use Rattle.test.specs.Test.{before, upto, load, active-side, start-side}
+use Rattle.test.proofs.Load.{Positive, load-mono, load-upto-mono, load-upto, load-without, run-asked}
+
+module _ (tb : Table) (P : ℕ → Bool) (b i : ℕ) where
+  -- the text of each side, for omega
+  pub active-side-is : (t : ℕ) → active-side tb P b i t ≡ b + before t (tb .T i) * tb .C i + load before tb P t
+  unfolding active-side
+  active-side-is t = refl
+
+  pub start-side-is : (q k s : ℕ) → start-side tb P b i upto q k s ≡ b + (k * tb .C i - q) + load upto tb P s
+  unfolding start-side
+  start-side-is q k s = refl
+
+  -- for k of at least 1 and a length of at most C nothing is cut off
+  pub start-side-whole : (q k s : ℕ) → 1 ≤ k → q ≤ tb .C i → start-side tb P b i upto q k s + q ≡ b + k * tb .C i + load upto tb P s
+  start-side-whole q k s h w = omega (arith, start-side-is q k s, mul-le-mul-right (tb .C i) h)
+
+  pub active-side-mono : Mono (active-side tb P b i)
+  active-side-mono x y h =
+      omega (arith, active-side-is x, active-side-is y, mul-le-mul-right (tb .C i) (up-mono (tb .T i) h), load-mono tb P x y h)
+
+  pub start-side-mono : (q k : ℕ) → Mono (start-side tb P b i upto q k)
+  start-side-mono q k x y h = omega (arith, start-side-is q k x, start-side-is q k y, load-upto-mono tb P x y h)
+
+  pub active-side-up : Positive tb → i < tb .n → 1 ≤ active-side tb P b i 1
+  active-side-up pos l = omega (arith, active-side-is 1, run-asked tb pos i 1 l (omega arith), pos .C i l)
+
+-- over the rows of U but row i: the level's load is the same for every row of U
+pub active-side-level : (tb : Table) (U : ℕ → Bool) (b i t : ℕ) → i < tb .n → U i ≡ true →
+    active-side tb (without U i) b i t ≡ b + load before tb U t
+active-side-level tb U b i t l e = omega (arith, active-side-is tb (without U i) b i t, load-without tb before U i t l e)
