@@ -1,4 +1,5 @@
--- The numbers below m that pass a test, listed in order, and sums over them; pairs of a tick and a row as numbers; multiples.
+-- The numbers below m that pass a test, listed in order, and sums over them; pairs of a tick and a row as numbers;
+-- multiples.
 use Prim.Native.Nat.{ℕ, zero, suc, _+_, _*_, _/_, _%_, _≤_, _<_}
 use mathlib.Core.Path.{_≡_, refl, ap, sym, _∙_}
 use mathlib.Core.Bool.{Bool, true, false}
@@ -91,9 +92,7 @@ pub nth-has : (P : ℕ → Bool) (m c : ℕ) → c < m → P c ≡ true → (k :
 nth-has P zero c l e = absurd (omega arith)
 nth-has P (suc m) c l e =
     by-eq c m
-    (λ q.
-    let e′ : P m ≡ true = rw (← q) e in
-    (size P m, omega (arith, size-in P m e′), nth-new P m e′ ∙ sym q))
+    (λ q. let e′ : P m ≡ true = rw (← q) e in (size P m, omega (arith, size-in P m e′), nth-new P m e′ ∙ sym q))
     (λ q.
     let r = nth-has P m c (omega arith) e in
     let grows : size P m ≤ size P (suc m) =
@@ -109,8 +108,23 @@ sum-keep P f (suc m) =
     by-bool (P m)
     (λ e.
     let q : size P (suc m) ≡ suc (size P m) = omega (arith, size-in P m e) in
-    omega (arith, ap (sum (λ k. f (nth P (suc m) k))) q, old, ap f (nth-new P m e), given-yes (P m) (f m) e, sum-keep P f m))
-    (λ e. omega (arith, ap (sum (λ k. f (nth P (suc m) k))) (size-out P m e), old, given-no (P m) (f m) e, sum-keep P f m))
+    omega (
+      arith,
+      ap (sum (λ k. f (nth P (suc m) k))) q,
+      old,
+      ap f (nth-new P m e),
+      given-yes (P m) (f m) e,
+      sum-keep P
+          f m,
+    ))
+    (λ e. omega (
+      arith,
+      ap (sum (λ k. f (nth P (suc m) k))) (size-out P m e),
+      old,
+      given-no (P m) (f m) e,
+      sum-keep P f
+          m,
+    ))
 
 -- the number u n + h stands for tick u and row h
 pub sum-pairs : (g : ℕ → ℕ → ℕ) (n m : ℕ) → sum (λ c. g (c / n) (c % n)) (m * n) ≡ sum (λ u. sum (g u) n) m

@@ -1,5 +1,5 @@
--- Demand 3, the bound is reached: a list in which a job of the row takes exactly its response. At t₀ the level is released, while a job below
--- has the whole blocking still to run.
+-- Demand 3, the bound is reached: a list in which a job of the row takes exactly its response. At t₀ the level is
+-- released, while a job below has the whole blocking still to run.
 use Prim.Native.Nat.{ℕ, zero, suc, _+_, _-_, _*_, _≤_, _<_}
 use mathlib.Core.Path.{_≡_, refl, ap, sym, _∙_, subst}
 use mathlib.Core.Bool.{Bool, true, false, _&&_}
@@ -98,7 +98,8 @@ module _ (tb : Table) (sound : Sound tb) (p : Plan) (wf : WellFormed tb p) (i : 
           let mine : p .rank h ≤ r → given (level k) (E t k) ≡ E t k =
           λ a. given-yes (level k) (E t k) (le-leb (p .rank h) r a) in
           let other : (h ≡ i → ⊥) → given (own && sooner) c ≡ 0 =
-          λ ne. by-bool (own && sooner) (λ e. absurd (ne (eqb-true h i (and-left own sooner e)))) (λ e. given-no (own && sooner) c e) in
+          λ ne. by-bool (own && sooner) (λ e. absurd (ne (eqb-true h i (and-left own sooner e))))
+          (λ e. given-no (own && sooner) c e) in
           let not-above : h ≡ i → given (ab && by-now) c ≡ 0 =
           λ e. by-bool (ab && by-now)
           (λ u. absurd (omega (arith, ltb-true (p .rank h) r (and-left ab by-now u), ap (p .rank) e)))
@@ -131,7 +132,8 @@ module _ (tb : Table) (sound : Sound tb) (p : Plan) (wf : WellFormed tb p) (i : 
           (λ a.
           absurd (omega (
             arith,
-            lead .earliest k kl (record { since = omega (arith, J .release, lead .pends .since); left = a }) (row ∙ sym (J .row)),
+            lead .earliest k kl (record { since = omega (arith, J .release, lead .pends .since); left = a })
+                (row ∙ sym (J .row)),
             J .release,
           ))) in
           omega (arith, given-yes (own && sooner) c u, mine (omega (arith, ap (p .rank) row))))
@@ -150,18 +152,21 @@ module _ (tb : Table) (sound : Sound tb) (p : Plan) (wf : WellFormed tb p) (i : 
 
       -- what rows of the level ask for before t₀ + y
       asks : (A : ℕ → Bool) → ((h : ℕ) → h < tb .n → A h ≡ true → p .rank h ≤ r) → (y : ℕ) → t₀ + y ≤ suc (t₀ + s) →
-          load before tb A y ≤ sum (λ k. given (A (js .row k) && ltb (js .release k) (t₀ + y)) (tb .C (js .row k))) (js .N)
+          load before tb A y ≤ sum (λ k. given (A (js .row k) && ltb (js .release k) (t₀ + y)) (tb .C (js .row k)))
+          (js .N)
       asks = Wo.worst-load tb p r opening t₀ (suc (t₀ + s)) pos (sound .some) low
 
       part-ge : (x : ℕ) → x < s → load upto tb (above p r) x + κ * tb .C i + (tb .C i - q) ≤ sum (part x) (js .N)
       part-ge x h =
           let N = js .N in
           let f₁ : ℕ → ℕ = λ k. given (above p r (js .row k) && ltb (js .release k) (t₀ + suc x)) (tb .C (js .row k)) in
-          let f₂ : ℕ → ℕ = λ k. given (eqb (js .row k) i && ltb (js .release k) (t₀ + κ * tb .T i)) (tb .C (js .row k)) in
+          let f₂ : ℕ → ℕ = λ k. given (eqb (js .row k) i && ltb (js .release k) (t₀ + κ * tb .T i))
+          (tb .C (js .row k)) in
           let f₃ : ℕ → ℕ = λ k. given (eqb j k) (tb .C i - q) in
           let own : ℕ → Bool = λ h. eqb h i in
           let y = κ * tb .T i in
-          let enough : κ ≤ before y (tb .T i) = le-of-mul-le-mul-right {k = tb .T i} (le-up y (pos .T i il)) (pos .T i il) in
+          let enough : κ ≤ before y (tb .T i) = le-of-mul-le-mul-right {k = tb .T i} (le-up y (pos .T i il))
+          (pos .T i il) in
           omega (
             arith,
             sum-add f₁ (λ k. f₂ k + f₃ k) N,
@@ -237,7 +242,8 @@ module _ (tb : Table) (sound : Sound tb) (p : Plan) (wf : WellFormed tb p) (i : 
   opens-low l lt h e = omega (arith, ap (p .rank) (eqb-true h l e))
 
   -- Row l is below; at t₀ its job has the blocking still to run, and is locked all that time.
-  module _ (l : ℕ) (ll : l < tb .n) (lt : r < p .rank l) (t₀ κ s : ℕ) (held : (y : ℕ) → y < B → locked tb p l (t₀ + y) ≡ true)
+  module _ (l : ℕ) (ll : l < tb .n) (lt : r < p .rank l) (t₀ κ s : ℕ)
+      (held : (y : ℕ) → y < B → locked tb p l (t₀ + y) ≡ true)
       (fits : t₀ + B ≤ tb .C l) where
     abbrev jl : Jobs
     jl = js (opens l) (opens-low l lt) t₀ κ s
@@ -255,19 +261,25 @@ module _ (tb : Table) (sound : Sound tb) (p : Plan) (wf : WellFormed tb p) (i : 
     only : (k : ℕ) → k < jl .N → jl .release k < t₀ → k ≡ O .job
     only k kl h =
         let o = Wo.opens-only tb p r (opens l) t₀ (suc (t₀ + s)) pos (sound .some) (opens-low l lt) k kl h in
-        R.same-job tb jl sound lawl k (O .job) kl (O .is) (eqb-true (jl .row k) l (o .1) ∙ sym (O .row)) (o .0 ∙ sym (O .release))
+        R.same-job tb jl sound lawl k (O .job) kl (O .is) (eqb-true (jl .row k) l (o .1) ∙ sym (O .row))
+        (o .0 ∙ sym (O .release))
 
     alone : (t : ℕ) → t ≤ t₀ → D t (O .job) ≡ t
     alone zero h = X.executed-zero tb p jl (O .job)
     alone (suc t) h =
         let so-far = alone t (omega arith) in
         let mine : (k : ℕ) → k < jl .N → X.runs tb p jl t ≡ job k → X.runs tb p jl t ≡ job (O .job) =
-        λ k kl e. e ∙ ap job (only k kl (omega (arith, X.runs-pending tb p jl (new (opens l) (opens-low l lt) t₀ κ s) t k e .since))) in
+        λ k kl e. e ∙ ap job (only k kl (omega (
+          arith,
+          X.runs-pending tb p jl (new (opens l) (opens-low l lt) t₀ κ s) t
+              k e .since,
+        ))) in
         X.executed-at tb p jl t (O .job)
         (R.rule tb p jl (D t) t
         (λ k kl e _. mine k kl e)
         (λ k kl e _ _. mine k kl e)
-        (λ _ _ quiet. absurd (quiet (O .job) (O .is) (record { since = omega (arith, O .release); left = omega (arith, O .run) }))))
+        (λ _ _ quiet. absurd (quiet (O .job) (O .is)
+        (record { since = omega (arith, O .release); left = omega (arith, O .run) }))))
         ∙ ap suc so-far
 
     blocked : Held (opens l) (opens-low l lt) t₀ κ s
@@ -306,7 +318,8 @@ module _ (tb : Table) (sound : Sound tb) (p : Plan) (wf : WellFormed tb p) (i : 
     abbrev s : ℕ
     s = x .reached .start
 
-    build : (opening : ℕ → Bool) (low : (h : ℕ) → opening h ≡ true → r < p .rank h) (t₀ : ℕ) → Held opening low t₀ (x .job) s → Exactly R
+    build : (opening : ℕ → Bool) (low : (h : ℕ) → opening h ≡ true → r < p .rank h) (t₀ : ℕ) →
+        Held opening low t₀ (x .job) s → Exactly R
     build opening low t₀ held =
         let κ = x .job in
         let st = x .reached .starts in

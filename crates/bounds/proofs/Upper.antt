@@ -1,5 +1,6 @@
--- Demand 3, the upper bound: under the dispatch rule each job of a lawful list has executed its run by its release and its row's response.
--- The level of the job is settled last at t₀; from there on every tick is busy with the level until the job finishes.
+-- Demand 3, the upper bound: under the dispatch rule each job of a lawful list has executed its run by its release and
+-- its row's response. The level of the job is settled last at t₀; from there on every tick is busy with the level until
+-- the job finishes.
 use Prim.Native.Nat.{ℕ, suc, _+_, _-_, _*_, _/_, _≤_, _<_}
 use mathlib.Core.Path.{_≡_, refl, ap, sym}
 use mathlib.Core.Bool.{Bool, true, _&&_}
@@ -28,7 +29,8 @@ use Rattle.kernel.proofs.Level as Lv
 use Rattle.bounds.proofs.Window as W
 
 -- a job below rank r is locked for no more ticks than the blocking
-pub locked-short : (tb : Table) (p : Plan) (js : Jobs) → WellFormed tb p → Lawful tb js → (r k e n : ℕ) → k < js .N → r < p .rank (js .row k) →
+pub locked-short : (tb : Table) (p : Plan) (js : Jobs) → WellFormed tb p → Lawful tb js → (r k e n : ℕ) → k < js .N →
+    r < p .rank (js .row k) →
     e + n ≤ js .run k → ((y : ℕ) → y < n → locked tb p (js .row k) (e + y) ≡ true) → n ≤ blocking tb p r
 locked-short tb p js wf lawful r k e n l h fits held =
     let i = js .row k in
@@ -109,7 +111,8 @@ module _ (tb : Table) (sound : Sound tb) (p : Plan) (wf : WellFormed tb p) (js :
   abbrev share : ℕ → ℕ → ℕ
   share x k = given (rows (js .row k) && within x k) (tb .C (js .row k))
 
-  share-in : (x k : ℕ) → p .rank (js .row k) ≤ r → t₀ ≤ js .release k → js .release k ≤ t₀ + x → share x k ≡ tb .C (js .row k)
+  share-in : (x k : ℕ) → p .rank (js .row k) ≤ r → t₀ ≤ js .release k → js .release k ≤ t₀ + x →
+      share x k ≡ tb .C (js .row k)
   share-in x k high a b =
       given-yes (rows (js .row k) && within x k) (tb .C (js .row k))
       (and-both (rows (js .row k)) (within x k) (le-leb (p .rank (js .row k)) r high)
@@ -128,7 +131,8 @@ module _ (tb : Table) (sound : Sound tb) (p : Plan) (wf : WellFormed tb p) (js :
       (λ a. omega (arith, z .settled k l high a, X.executed-run tb p js t k))
 
   -- and all of it only if it is finished
-  short : (t k x : ℕ) → js .release k ≤ t₀ + x → k < js .N → p .rank (js .row k) ≤ r → E t k < js .run k → E t k < E t₀ k + share x k
+  short : (t k x : ℕ) → js .release k ≤ t₀ + x → k < js .N → p .rank (js .row k) ≤ r → E t k < js .run k →
+      E t k < E t₀ k + share x k
   short t k x h l high f =
       by-le t₀ (js .release k)
       (λ a. omega (arith, lawful .run-high k l, share-in x k high a h))
@@ -309,7 +313,8 @@ module _ (tb : Table) (sound : Sound tb) (p : Plan) (wf : WellFormed tb p) (js :
         (λ e.
         let ab : above p r (js .row k) ≡ true =
         lt-ltb (p .rank (js .row k)) r
-        (by-eq (p .rank (js .row k)) r (λ o′. absurd (e (wf .once (js .row k) i (lawful .row k l) il o′))) (λ o′. omega arith)) in
+        (by-eq (p .rank (js .row k)) r (λ o′. absurd (e (wf .once (js .row k) i (lawful .row k l) il o′)))
+        (λ o′. omega arith)) in
         omega (
           arith,
           given-yes (above p r (js .row k) && within s k) (tb .C (js .row k))
@@ -377,7 +382,8 @@ module _ (tb : Table) (sound : Sound tb) (p : Plan) (wf : WellFormed tb p) (js :
         let d = js .run j - E t₁ j in
         let held : locked tb p i (E t₁ j) ≡ true = lt-ltb (tb .C i) (E t₁ j + q) a in
         let on = X.runs-on tb p js new t₁ j jl (record { left = h; held = held }) in
-        let after = S.steady tb p js sound wf lawful t₁ j d on (omega arith) (λ x _. inl (S.locked-on tb p i (E t₁ j) x held)) d (omega arith) in
+        let after = S.steady tb p js sound wf lawful t₁ j d on (omega arith)
+        (λ x _. inl (S.locked-on tb p i (E t₁ j) x held)) d (omega arith) in
         omega (arith, after .mine, X.executed-mono tb p js (t₁ + d) u j (omega (arith, lawful .run-high j jl))))
 
 -- demand 3, the upper bound
@@ -395,7 +401,8 @@ in-time tb sound p wf js lawful j jl R x =
     let apart = κ-apart tb sound p wf js lawful j jl in
     let counts : k < jobs tb (above p r) B i L =
     lt-up L k (pos .T i il) (omega (arith, apart, soon tb sound p wf js lawful j jl L (x .active), z .upto)) in
-    let s = start-exists tb (above p r) B i pos il (p .len i) (wf .len-low i il) (wf .len-high i il) L (x .active) (suc k) (omega arith) counts in
+    let s = start-exists tb (above p r) B i pos il (p .len i) (wf .len-low i il) (wf .len-high i il) L (x .active)
+    (suc k) (omega arith) counts in
     let most = x .highest k (s .0 + p .len i) counts (record { start = s .0; starts = s .1; ends = refl }) in
     let u = js .release j + R in
     omega (

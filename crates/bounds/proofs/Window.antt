@@ -63,8 +63,11 @@ module _ (tb : Table) (js : Jobs) (lawful : Lawful tb js) (pos : Positive tb) (t
       let same : (uk / T) * T ≡ (ul / T) * T = ap (λ z. z * T) (ok ∙ sym ol) in
       let bk = lt-div-mul-add {a = uk} (pos .T j jl) in
       let bl = lt-div-mul-add {a = ul} (pos .T j jl) in
-      let near : (uk < ul + T) × (ul < uk + T) =
-      (omega (arith, div-mul-le-self ul T, div-mul-le-self uk T), omega (arith, div-mul-le-self uk T, div-mul-le-self ul T)) in
+      let near : (uk < ul + T) × (ul < uk + T) = (
+        omega (arith, div-mul-le-self ul T, div-mul-le-self uk T),
+        omega
+            (arith, div-mul-le-self uk T, div-mul-le-self ul T),
+      ) in
       let apart : (m o : ℕ) → m < o → o < js .N → js .row m ≡ j → js .row o ≡ j → js .release m < js .release o + T →
       js .release o < js .release m + T → ⊥ =
       λ m o h g rm ro c d.
@@ -75,8 +78,10 @@ module _ (tb : Table) (js : Jobs) (lawful : Lawful tb js) (pos : Positive tb) (t
       by-eq k l (λ q. q)
       (λ q.
       by-le k l
-      (λ h. absurd (apart k l (omega arith) b rk rl (omega (arith, wk .from, wl .from, near .0)) (omega (arith, wk .from, wl .from, near .1))))
-      (λ h. absurd (apart l k h a rl rk (omega (arith, wk .from, wl .from, near .1)) (omega (arith, wk .from, wl .from, near .0)))))
+      (λ h. absurd (apart k l (omega arith) b rk rl (omega (arith, wk .from, wl .from, near .0))
+      (omega (arith, wk .from, wl .from, near .1))))
+      (λ h. absurd (apart l k h a rl rk (omega (arith, wk .from, wl .from, near .1))
+      (omega (arith, wk .from, wl .from, near .0)))))
 
   -- so x / T + 1 at most in the window
   pub count-window : (j x : ℕ) → j < tb .n → count (mine j x) (js .N) ≤ upto x (tb .T j)
@@ -135,12 +140,14 @@ module _ (tb : Table) (js : Jobs) (lawful : Lawful tb js) (pos : Positive tb) (t
       omega (
         arith,
         sum-swap (js .row) asks (tb .n) (js .N) (lawful .row),
-        sum-le (λ j. sum (λ k. given (eqb (js .row k) j) (asks k)) (js .N)) (λ j. given (A j) (upto x (tb .T j) * tb .C j)) (tb .n)
+        sum-le (λ j. sum (λ k. given (eqb (js .row k) j) (asks k)) (js .N))
+            (λ j. given (A j) (upto x (tb .T j) * tb .C j)) (tb .n)
             (λ j l.
             by-bool (A j)
             (λ a.
             le-trans
-            (sum-le (λ k. given (eqb (js .row k) j) (asks k)) (λ k. given (mine j x k) 1 * tb .C j) (js .N) (λ k _. each j k))
+            (sum-le (λ k. given (eqb (js .row k) j) (asks k)) (λ k. given (mine j x k) 1 * tb .C j) (js .N)
+            (λ k _. each j k))
             (omega (
               arith,
               sum-mul (λ k. given (mine j x k) 1) (tb .C j) (js .N),
@@ -157,7 +164,8 @@ module _ (tb : Table) (js : Jobs) (lawful : Lawful tb js) (pos : Positive tb) (t
       each-of false a w c d h = omega arith
 
       each : (j k : ℕ) →
-          given (eqb (js .row k) j) (given (A (js .row k) && within x k) (tb .C (js .row k))) ≤ given (mine j x k) 1 * tb .C j
+          given (eqb (js .row k) j) (given (A (js .row k) && within x k) (tb .C (js .row k))) ≤ given (mine j x k) 1
+          * tb .C j
       each j k =
           each-of (eqb (js .row k) j) (A (js .row k)) (within x k) (tb .C (js .row k)) (tb .C j)
           (λ e. ap (tb .C) (eqb-true (js .row k) j e))
@@ -166,6 +174,8 @@ module _ (tb : Table) (js : Jobs) (lawful : Lawful tb js) (pos : Positive tb) (t
       none-of true a w c h = rw (h refl)
       none-of false a w c h = refl
 
-      none : (j k : ℕ) → A j ≡ false → given (eqb (js .row k) j) (given (A (js .row k) && within x k) (tb .C (js .row k))) ≡ 0
+      none : (j k : ℕ) → A j ≡ false → given (eqb (js .row k) j)
+          (given (A (js .row k) && within x k) (tb .C (js .row k))) ≡ 0
       none j k a =
-          none-of (eqb (js .row k) j) (A (js .row k)) (within x k) (tb .C (js .row k)) (λ e. ap A (eqb-true (js .row k) j e) ∙ a)
+          none-of (eqb (js .row k) j) (A (js .row k)) (within x k) (tb .C (js .row k))
+          (λ e. ap A (eqb-true (js .row k) j e) ∙ a)

@@ -1,5 +1,5 @@
--- The list in which a level asks for the most: the rows of rank r and higher are released at t₀ and from then on as often as they may, and
--- the opening rows, of lower rank, once at 0; each job has its worst run.
+-- The list in which a level asks for the most: the rows of rank r and higher are released at t₀ and from then on as
+-- often as they may, and the opening rows, of lower rank, once at 0; each job has its worst run.
 use Prim.Native.Nat.{ℕ, _+_, _-_, _*_, _/_, _%_, _≤_, _<_}
 use mathlib.Core.Path.{_≡_, refl, ap, sym, _∙_, subst}
 use mathlib.Core.Bool.{Bool, true, _&&_, _||_}
@@ -19,7 +19,8 @@ use Rattle.tables.specs.Jobs.{Jobs, Lawful}
 use Rattle.test.specs.Test.{before, load}
 use Rattle.test.proofs.Load.{Positive}
 use Rattle.kernel.proofs.Rule.{or-cases, or-left, or-right}
-use Rattle.bounds.proofs.Listing.{size, nth, nth-is, nth-rises, nth-has, sum-keep, sum-pairs, multiples, multiples-apart}
+use Rattle.bounds.proofs.Listing.{size, nth, nth-is, nth-rises, nth-has, sum-keep, sum-pairs, multiples}
+use Rattle.bounds.proofs.Listing.{multiples-apart}
 
 -- the list goes up to tick Z − 1
 module _ (tb : Table) (p : Plan) (r : ℕ) (opening : ℕ → Bool) (t₀ Z : ℕ) where
@@ -79,7 +80,10 @@ module _ (tb : Table) (p : Plan) (r : ℕ) (opening : ℕ → Bool) (t₀ Z : �
     opens : opening h ≡ true
 
   once-of : (u h : ℕ) → once u h ≡ true → Once u h
-  once-of u h e = record { tick = eqb-true u 0 (and-left (eqb u 0) (opening h) e); opens = and-right (eqb u 0) (opening h) e }
+  once-of u h e = record {
+    tick = eqb-true u 0 (and-left (eqb u 0) (opening h) e);
+    opens = and-right (eqb u 0) (opening h) e;
+  }
 
   -- a row and a tick that are listed
   pub record Job (u h : ℕ) : Type 0 where
@@ -103,7 +107,8 @@ module _ (tb : Table) (p : Plan) (r : ℕ) (opening : ℕ → Bool) (t₀ Z : �
       job-of u h l b (or-left (often u h) (once u h) (often-to u h (record { high = high; from = from; multiple = m })))
 
   pub opening-job : (h : ℕ) → h < tb .n → opening h ≡ true → 0 < Z → Job 0 h
-  opening-job h l o b = job-of 0 h l b (or-right (often 0 h) (once 0 h) (and-both (eqb 0 0) (opening h) (eq-eqb 0 0 refl) o))
+  opening-job h l o b = job-of 0 h l b (or-right (often 0 h) (once 0 h)
+      (and-both (eqb 0 0) (opening h) (eq-eqb 0 0 refl) o))
 
   -- The opening rows are of lower rank.
   module _ (pos : Positive tb) (some : 0 < tb .n) (low : (h : ℕ) → opening h ≡ true → r < p .rank h) where
@@ -153,7 +158,8 @@ module _ (tb : Table) (p : Plan) (r : ℕ) (opening : ℕ → Bool) (t₀ Z : �
         }
 
     -- before t₀ only opening rows are released, at 0
-    pub opens-only : (k : ℕ) → k < worst .N → worst .release k < t₀ → (worst .release k ≡ 0) × (opening (worst .row k) ≡ true)
+    pub opens-only : (k : ℕ) → k < worst .N → worst .release k < t₀ →
+        (worst .release k ≡ 0) × (opening (worst .row k) ≡ true)
     opens-only k l h =
         let u = worst .release k in
         let i = worst .row k in
@@ -163,7 +169,8 @@ module _ (tb : Table) (p : Plan) (r : ℕ) (opening : ℕ → Bool) (t₀ Z : �
 
     -- what rows of the level ask for before t₀ + y
     pub worst-load : (A : ℕ → Bool) → ((h : ℕ) → h < tb .n → A h ≡ true → p .rank h ≤ r) → (y : ℕ) → t₀ + y ≤ Z →
-        load before tb A y ≤ sum (λ k. given (A (worst .row k) && ltb (worst .release k) (t₀ + y)) (tb .C (worst .row k))) (worst .N)
+        load before tb A y ≤ sum (λ k. given (A (worst .row k) && ltb (worst .release k) (t₀ + y))
+        (tb .C (worst .row k))) (worst .N)
     unfolding load
     worst-load A sub y fits =
         let n = tb .n in
@@ -182,7 +189,8 @@ module _ (tb : Table) (p : Plan) (r : ℕ) (opening : ℕ → Bool) (t₀ Z : �
                 given-yes (A h) (before y (tb .T h) * tb .C h) a,
                 mul-le-mul-right (tb .C h) (multiples (tb .T h) y (pos .T h l)),
                 sum-mul (λ v. given (eqb (v % tb .T h) 0) 1) (tb .C h) y,
-                sum-le (λ v. given (eqb (v % tb .T h) 0) 1 * tb .C h) (λ v. g (t₀ + v) h) y (λ v b. each h v a (sub h l a) b),
+                sum-le (λ v. given (eqb (v % tb .T h) 0) 1 * tb .C h) (λ v. g (t₀ + v) h) y
+                    (λ v b. each h v a (sub h l a) b),
                 sum-shift (λ u. g u h) t₀ y,
                 sum-more (λ u. g u h) (t₀ + y) Z fits,
               ))
@@ -190,17 +198,23 @@ module _ (tb : Table) (p : Plan) (r : ℕ) (opening : ℕ → Bool) (t₀ Z : �
         )
       where
         each : (h v : ℕ) → A h ≡ true → p .rank h ≤ r → v < y →
-            given (eqb (v % tb .T h) 0) 1 * tb .C h ≤ given (here (t₀ + v) h) (given (A h && ltb (t₀ + v) (t₀ + y)) (tb .C h))
+            given (eqb (v % tb .T h) 0) 1 * tb .C h ≤ given (here (t₀ + v) h)
+            (given (A h && ltb (t₀ + v) (t₀ + y)) (tb .C h))
         each h v a high b =
             by-eq (v % tb .T h) 0
             (λ q.
             let o : often (t₀ + v) h ≡ true =
-            often-to (t₀ + v) h (record { high = high; from = omega arith; multiple = rw (add-sub-cancel-left t₀ v) q }) in
+            often-to (t₀ + v) h (record {
+              high = high;
+              from = omega arith;
+              multiple = rw (add-sub-cancel-left t₀ v) q;
+            }) in
             let inner = A h && ltb (t₀ + v) (t₀ + y) in
             omega (
               arith,
               ap (λ z. z * tb .C h) (given-yes (eqb (v % tb .T h) 0) 1 (eq-eqb (v % tb .T h) 0 q)),
               given-yes (here (t₀ + v) h) (given inner (tb .C h)) (or-left (often (t₀ + v) h) (once (t₀ + v) h) o),
-              given-yes inner (tb .C h) (and-both (A h) (ltb (t₀ + v) (t₀ + y)) a (lt-ltb (t₀ + v) (t₀ + y) (omega arith))),
+              given-yes inner (tb .C h) (and-both (A h) (ltb (t₀ + v) (t₀ + y)) a
+                  (lt-ltb (t₀ + v) (t₀ + y) (omega arith))),
             ))
             (λ q. omega (arith, ap (λ z. z * tb .C h) (given-no (eqb (v % tb .T h) 0) 1 (ne-eqb (v % tb .T h) 0 q))))

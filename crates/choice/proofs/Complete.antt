@@ -1,4 +1,5 @@
--- Demand 2 over plans: a chosen plan is well formed and passes, it is shortest at each rank, and the choice stops only where no plan passes.
+-- Demand 2 over plans: a chosen plan is well formed and passes, it is shortest at each rank, and the choice stops only
+-- where no plan passes.
 use Prim.Native.Nat.{ℕ, zero, suc, pred, _+_, _-_, _≤_, _<_, max}
 use mathlib.Core.Path.{_≡_, ap, sym, _∙_, subst}
 use native.Mathlib.Omega.{arith}
@@ -18,20 +19,25 @@ use Rattle.choice.proofs.Filled.{filled-ranked, filled-more, chosen-low
 use Rattle.choice.proofs.Exchange.{Peels, peels-compare, exchange}
 
 -- where a rank is held once, the rows above its row are the other rows not placed
-pub above-others : (p : Plan) (y j : ℕ) → (p .rank j ≡ p .rank y → j ≡ y) → above p (p .rank y) j ≡ without (unplaced p (p .rank y)) y j
+pub above-others : (p : Plan) (y j : ℕ) → (p .rank j ≡ p .rank y → j ≡ y) →
+    above p (p .rank y) j ≡ without (unplaced p (p .rank y)) y j
 above-others p y j once =
     by-eq j y
-    (λ e. ap (above p (p .rank y)) e ∙ le-ltb (p .rank y) (p .rank y) (omega arith) ∙ sym (ap (without (unplaced p (p .rank y)) y) e ∙ without-same (unplaced p (p .rank y)) y))
+    (λ e. ap (above p (p .rank y)) e ∙ le-ltb (p .rank y) (p .rank y) (omega arith)
+    ∙ sym (ap (without (unplaced p (p .rank y)) y) e ∙ without-same (unplaced p (p .rank y)) y))
     (λ e.
     by-le (p .rank y) (p .rank j)
     (λ h.
     by-eq (p .rank j) (p .rank y)
     (λ x. absurd (e (once x)))
-    (λ x. le-ltb (p .rank j) (p .rank y) h ∙ sym (without-other (unplaced p (p .rank y)) y j e ∙ lt-leb (p .rank j) (p .rank y) (omega arith))))
-    (λ h. lt-ltb (p .rank j) (p .rank y) h ∙ sym (without-other (unplaced p (p .rank y)) y j e ∙ le-leb (p .rank j) (p .rank y) (omega arith))))
+    (λ x. le-ltb (p .rank j) (p .rank y) h ∙ sym
+    (without-other (unplaced p (p .rank y)) y j e ∙ lt-leb (p .rank j) (p .rank y) (omega arith))))
+    (λ h. lt-ltb (p .rank j) (p .rank y) h ∙ sym
+    (without-other (unplaced p (p .rank y)) y j e ∙ le-leb (p .rank j) (p .rank y) (omega arith))))
 
 module _ (tb : Table) (pos : Positive tb) (p : Plan) where
-  module _ (y : ℕ) (l : y < tb .n) (low : 1 ≤ p .len y) (high : p .len y ≤ cap tb y) (once : (j : ℕ) → j < tb .n → p .rank j ≡ p .rank y → j ≡ y) where
+  module _ (y : ℕ) (l : y < tb .n) (low : 1 ≤ p .len y) (high : p .len y ≤ cap tb y)
+      (once : (j : ℕ) → j < tb .n → p .rank j ≡ p .rank y → j ≡ y) where
     abbrev r : ℕ
     r = p .rank y
 
@@ -41,12 +47,14 @@ module _ (tb : Table) (pos : Positive tb) (p : Plan) where
     -- a row passes exactly if its length fits at its rank
     passes-fits : RowPasses tb p y → Fits tb (without (unplaced p r) y) (blocking tb p r) y (p .len y)
     passes-fits x =
-        fits-compare tb pos y l (without (unplaced p r) y) (above p r) (blocking tb p r) (blocking tb p r) (p .len y) low high
+        fits-compare tb pos y l (without (unplaced p r) y) (above p r) (blocking tb p r) (blocking tb p r) (p .len y)
+        low high
         (λ t _. omega (arith, same-load t)) (record { R = x .R; response = x .response; within = x .within })
 
     fits-passes : Fits tb (without (unplaced p r) y) (blocking tb p r) y (p .len y) → RowPasses tb p y
     fits-passes x =
-        let f = fits-compare tb pos y l (above p r) (without (unplaced p r) y) (blocking tb p r) (blocking tb p r) (p .len y) low high
+        let f = fits-compare tb pos y l (above p r) (without (unplaced p r) y) (blocking tb p r) (blocking tb p r)
+        (p .len y) low high
         (λ t _. omega (arith, same-load t)) x in
         record { R = f .R; response = f .response; within = f .within }
 
@@ -68,14 +76,15 @@ module _ (tb : Table) (pos : Positive tb) (p : Plan) where
         fits-passes i l (t .low) (t .holds .0)
         (λ j g e. f .once j i g l (omega (arith, chosen-low tb p f j g)) e) (t .holds .1)
 
-    -- Shortest at each rank: row y, any row z of no greater rank number, and any length of z that passes where the other rows of rank up
-    -- to that of y stand above and those of greater rank below
+    -- Shortest at each rank: row y, any row z of no greater rank number, and any length of z that passes where the
+    -- other rows of rank up to that of y stand above and those of greater rank below
     pub chosen-shortest : (y z q R : ℕ) → y < tb .n → z < tb .n → p .rank z ≤ p .rank y → 1 ≤ q → q ≤ cap tb z →
         Response tb (without (unplaced p (p .rank y)) z) (blocking tb p (p .rank y)) z q R → R ≤ tb .D z →
         (p .len y ≤ q) × (p .len y ≡ q → y ≤ z)
     chosen-shortest y z q R l g h low high x within =
         let s = p .rank y in
-        takes-least tb (unplaced p s) (blocking tb p s) (unplaced p s) y (p .len y) z q pos (f .takes y l (chosen-low tb p f y l)) g
+        takes-least tb (unplaced p s) (blocking tb p s) (unplaced p s) y (p .len y) z q pos
+        (f .takes y l (chosen-low tb p f y l)) g
         (le-leb (p .rank z) s h) low high (record { R = R; response = x; within = within })
 
   -- a passing plan, peeled from its lowest rank up
@@ -100,14 +109,16 @@ module _ (tb : Table) (pos : Positive tb) (p : Plan) where
                 subst (λ b. Fits tb (without (unplaced p s) y) b y (p .len y)) (blocking-is tb p s)
                 (subst (λ x. Fits tb (without (unplaced p x) y) (blocking tb p x) y (p .len y)) (k .2) fits);
           },
-          peels-compare tb pos r (without (unplaced p s) y) (unplaced p r) (max (longest tb p s) (p .len y)) (longest tb p r)
+          peels-compare tb pos r (without (unplaced p s) y) (unplaced p r) (max (longest tb p s) (p .len y))
+              (longest tb p r)
               (λ j g. sym (unplaced-next p r y j (k .2) (λ e. once j g (e ∙ sym (k .2)))))
               (omega (arith, longest-ge tb p r y l (omega (arith, k .2)), longest-next r))
               (peels-of r (omega arith)),
         )
       where
         longest-next : (r : ℕ) → longest tb p (suc r) ≤ longest tb p r
-        longest-next r = longest-cases tb p (suc r) (λ e. omega arith) (λ j g lt e. omega (arith, longest-ge tb p r j g (omega arith)))
+        longest-next r = longest-cases tb p (suc r) (λ e. omega arith)
+            (λ j g lt e. omega (arith, longest-ge tb p r j g (omega arith)))
 
 -- what is left to a plan that is filled as the choice says can be peeled, where any plan passes
 module _ (tb : Table) (pos : Positive tb) (p : Plan) (o : Plan) (wf : WellFormed tb o) (ok : Passes tb o) where
@@ -115,7 +126,8 @@ module _ (tb : Table) (pos : Positive tb) (p : Plan) (o : Plan) (wf : WellFormed
   left-peels zero r h f =
       let n : r ≡ tb .n = omega arith in
       subst (λ r. Peels tb r (unplaced p r) (longest tb p r)) (sym n)
-      (peels-compare tb pos (tb .n) (unplaced p (tb .n)) (unplaced o (tb .n)) (longest tb p (tb .n)) (longest tb o (tb .n))
+      (peels-compare tb pos (tb .n) (unplaced p (tb .n)) (unplaced o (tb .n)) (longest tb p (tb .n))
+      (longest tb o (tb .n))
       (λ j l. le-leb (p .rank j) (tb .n) (f .high j l) ∙ sym (le-leb (o .rank j) (tb .n) (wf .rank-high j l)))
       (longest-cases tb p (tb .n) (λ e. omega arith) (λ j l lt _. absurd (omega (arith, f .high j l))))
       (peels-of tb pos o wf ok (tb .n) (omega arith)))
@@ -159,4 +171,5 @@ stopped-no-plan tb pos s o wf ok =
     (left-peels tb pos p o wf ok (tb .n - s .rank) (s .rank) (omega (arith, s .high)) (s .filled)) in
     let S = F .2 in
     s .none (F .0) (F .1) (S .row) (S .mem) (S .low) (S .high)
-    (subst (λ b. Fits tb (without (unplaced p (s .rank)) (F .0)) b (F .0) (F .1)) (sym (blocking-is tb p (s .rank))) (S .fits))
+    (subst (λ b. Fits tb (without (unplaced p (s .rank)) (F .0)) b (F .0) (F .1)) (sym (blocking-is tb p (s .rank)))
+    (S .fits))

@@ -38,16 +38,19 @@ module _ (tb : Table) (pos : Positive tb) where
         mem = e;
         low = s .low;
         high = s .high;
-        fits = fits-compare tb pos x (s .row) (without U x) (without U′ x) (pred m) (pred m′) q (s .low) (s .high) le (s .fits);
+        fits = fits-compare tb pos x (s .row) (without U x) (without U′ x) (pred m) (pred m′) q (s .low) (s .high) le
+            (s .fits);
       }
 
   -- the same rows below n, and no longer a length below
-  pub peels-compare : (r : ℕ) (U U′ : ℕ → Bool) (m m′ : ℕ) → ((j : ℕ) → j < tb .n → U j ≡ U′ j) → m ≤ m′ → Peels tb r U′ m′ → Peels tb r U m
+  pub peels-compare : (r : ℕ) (U U′ : ℕ → Bool) (m m′ : ℕ) → ((j : ℕ) → j < tb .n → U j ≡ U′ j) → m ≤ m′ →
+      Peels tb r U′ m′ → Peels tb r U m
   peels-compare zero U U′ m m′ same h F = tt
   peels-compare (suc r) U U′ m m′ same h F =
       let y = F .0 in
       let q = F .1 in
-      let less : (j : ℕ) → j < tb .n → without U y j ≡ without U′ y j = λ j l. ap (λ b. b && not (eqb j y)) (same j l) in (
+      let less : (j : ℕ) → j < tb .n → without U y j ≡ without U′ y j =
+      λ j l. ap (λ b. b && not (eqb j y)) (same j l) in (
         y,
         q,
         step-compare U U′ m m′ y q (F .2) (same y (F .2 .row) ∙ F .2 .mem)
@@ -56,7 +59,8 @@ module _ (tb : Table) (pos : Positive tb) where
       )
 
   -- a row taken out
-  peels-without : (r : ℕ) (U : ℕ → Bool) (m y : ℕ) → y < tb .n → U y ≡ true → Peels tb (suc r) U m → Peels tb r (without U y) m
+  peels-without : (r : ℕ) (U : ℕ → Bool) (m y : ℕ) → y < tb .n → U y ≡ true → Peels tb (suc r) U m →
+      Peels tb r (without U y) m
   peels-without zero U m y l e F = tt
   peels-without (suc r) U m y l e F =
       let x = F .0 in
@@ -77,7 +81,8 @@ module _ (tb : Table) (pos : Positive tb) where
               load-without tb before (without U x) y t l ey,
               ap (λ Q. load before tb Q t) (without-comm U x y),
             )),
-        subst (λ Q. Peels tb r Q (max m q)) (without-comm U x y) (peels-without r (without U x) (max m q) y l ey (F .3)),
+        subst (λ Q. Peels tb r Q (max m q)) (without-comm U x y)
+            (peels-without r (without U x) (max m q) y l ey (F .3)),
       ))
 
   -- a row that stands lowest, with a length that no row stands lowest with a shorter than, may be the one that does

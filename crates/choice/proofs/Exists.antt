@@ -21,7 +21,8 @@ use Rattle.choice.proofs.Placed.{Placed, filled-none, filled-placed}
 use Rattle.choice.proofs.Complete.{chosen-well-formed, chosen-passes, stopped-no-plan}
 
 -- one level, where the active period of each of its rows is known
-module _ (tb : Table) (pos : Positive tb) (U : ℕ → Bool) (b : ℕ) (periods : (z : ℕ) → z < tb .n → U z ≡ true → (L : ℕ) × Active tb (without U z) b z L) where
+module _ (tb : Table) (pos : Positive tb) (U : ℕ → Bool) (b : ℕ)
+    (periods : (z : ℕ) → z < tb .n → U z ≡ true → (L : ℕ) × Active tb (without U z) b z L) where
   -- a row has a shortest passing length, or no passing length
   row-fits {ℓ} : {X : Type ℓ} (z : ℕ) → z < tb .n → U z ≡ true →
       ((q : ℕ) → Shortest tb U b z q → X) → (((q : ℕ) → 1 ≤ q → q ≤ cap tb z → ¬ Fits tb (without U z) b z q) → X) → X
@@ -42,15 +43,18 @@ module _ (tb : Table) (pos : Positive tb) (U : ℕ → Bool) (b : ℕ) (periods 
       and-both (U j) (ltb j (suc m)) (and-left (U j) (ltb j m) e)
       (lt-ltb j (suc m) (omega (arith, ltb-true j m (and-right (U j) (ltb j m) e))))
 
-  split {ℓ} : {X : Type ℓ} (m j : ℕ) → first-rows (suc m) j ≡ true → (first-rows m j ≡ true → X) → (j ≡ m → U m ≡ true → X) → X
+  split {ℓ} : {X : Type ℓ} (m j : ℕ) → first-rows (suc m) j ≡ true → (first-rows m j ≡ true → X) →
+      (j ≡ m → U m ≡ true → X) → X
   split m j e old new =
       let u = and-left (U j) (ltb j (suc m)) e in
       by-eq j m
       (λ q. new q (sym (ap U q) ∙ u))
-      (λ q. old (and-both (U j) (ltb j m) u (lt-ltb j m (omega (arith, ltb-true j (suc m) (and-right (U j) (ltb j (suc m)) e))))))
+      (λ q. old (and-both (U j) (ltb j m) u (lt-ltb j m
+      (omega (arith, ltb-true j (suc m) (and-right (U j) (ltb j (suc m)) e))))))
 
   -- row m does no better than the row found among those before it
-  keep : (m y p : ℕ) → Takes tb U b (first-rows m) y p → (U m ≡ true → (l : ℕ) → Shortest tb U b m l → p ≤ l) → Takes tb U b (first-rows (suc m)) y p
+  keep : (m y p : ℕ) → Takes tb U b (first-rows m) y p → (U m ≡ true → (l : ℕ) → Shortest tb U b m l → p ≤ l) →
+      Takes tb U b (first-rows (suc m)) y p
   keep m y p t mine =
       record {
         row = t .row;
@@ -68,7 +72,8 @@ module _ (tb : Table) (pos : Positive tb) (U : ℕ → Bool) (b : ℕ) (periods 
 
   -- row m does better than every row before it
   take-row : (m q : ℕ) → m < tb .n → U m ≡ true → Shortest tb U b m q →
-      ((z l : ℕ) → z < tb .n → first-rows m z ≡ true → Shortest tb U b z l → q < l) → Takes tb U b (first-rows (suc m)) m q
+      ((z l : ℕ) → z < tb .n → first-rows m z ≡ true → Shortest tb U b z l → q < l) →
+      Takes tb U b (first-rows (suc m)) m q
   take-row m q l u s better =
       record {
         row = l;
@@ -80,10 +85,12 @@ module _ (tb : Table) (pos : Positive tb) (U : ℕ → Bool) (b : ℕ) (periods 
             (λ o. omega (arith, better z k g o x))
             (λ q _. s .least k (x .low) (subst (λ y. (k ≤ cap tb y) × Fits tb (without U y) b y k) q (x .holds)));
         earliest =
-            λ z h e x. split m z e (λ o. absurd (omega (arith, better z q (omega arith) o x))) (λ q _. absurd (omega arith));
+            λ z h e x. split m z e (λ o. absurd (omega (arith, better z q (omega arith) o x)))
+            (λ q _. absurd (omega arith));
       }
 
-  none-more : (m : ℕ) → NoneFits tb U b (first-rows m) → (U m ≡ true → (q : ℕ) → 1 ≤ q → q ≤ cap tb m → ¬ Fits tb (without U m) b m q) →
+  none-more : (m : ℕ) → NoneFits tb U b (first-rows m) →
+      (U m ≡ true → (q : ℕ) → 1 ≤ q → q ≤ cap tb m → ¬ Fits tb (without U m) b m q) →
       NoneFits tb U b (first-rows (suc m))
   none-more m none mine z q g e low high f =
       split m z e
@@ -110,7 +117,12 @@ module _ (tb : Table) (pos : Positive tb) (U : ℕ → Bool) (b : ℕ) (periods 
       before)
       (λ none.
       ⊎-elim
-      (λ t. inl (t .0, t .1, keep m (t .0) (t .1) (t .2) (λ _ l x. absurd (none l (x .low) (x .holds .0) (x .holds .1)))))
+      (λ t. inl (
+        t .0,
+        t .1,
+        keep m (t .0) (t .1) (t .2)
+            (λ _ l x. absurd (none l (x .low) (x .holds .0) (x .holds .1))),
+      ))
       (λ n. inr (none-more m n (λ _. none)))
       before))
       (λ u.
@@ -189,7 +201,8 @@ module _ (tb : Table) (sound : Sound tb) (w : BusyWithin tb) where
       let y = t .0 in
       let q = t .1 in
       let h = place-is tb p s y q in
-      let none : (j : ℕ) → j < tb .n → ¬ (p .rank j ≡ s) = λ j l e. ⊎-elim (λ x. omega arith) (λ x. omega arith) (free j l) in
+      let none : (j : ℕ) → j < tb .n → ¬ (p .rank j ≡ s) =
+      λ j l e. ⊎-elim (λ x. omega arith) (λ x. omega arith) (free j l) in
       fill-from r (place p s y q) (filled-placed tb pos p (place p s y q) r y q f none (t .2) h)
       (λ j l.
       by-eq j y
@@ -217,7 +230,8 @@ module _ (tb : Table) (sound : Sound tb) (w : BusyWithin tb) where
       fill-from (tb .n) p (filled-none tb p (λ _ _. refl)) (λ _ _. inl refl)
 
   -- Complete: the choice stops exactly if no well-formed plan passes
-  pub complete : (Stopped tb → (p : Plan) → WellFormed tb p → Passes tb p → ⊥) × (((p : Plan) → WellFormed tb p → Passes tb p → ⊥) → Stopped tb)
+  pub complete : (Stopped tb → (p : Plan) → WellFormed tb p → Passes tb p → ⊥)
+      × (((p : Plan) → WellFormed tb p → Passes tb p → ⊥) → Stopped tb)
   complete = (
     stopped-no-plan tb pos,
     λ none.

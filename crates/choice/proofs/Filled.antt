@@ -1,4 +1,5 @@
--- Laws of plans filled from n down to a rank: two of them agree on the rows placed, and choice and stop exclude each other.
+-- Laws of plans filled from n down to a rank: two of them agree on the rows placed, and choice and stop exclude each
+-- other.
 use Prim.Native.Nat.{ℕ, zero, suc, _+_, _-_, _≤_, _<_}
 use mathlib.Core.Path.{_≡_, ap, sym, _∙_, subst}
 use mathlib.Core.Logic.{_⊎_, inl, inr, ⊎-elim}
@@ -84,7 +85,8 @@ module _ (tb : Table) (pos : Positive tb) (p p′ : Plan) where
       let t′ = subst (λ x. TakesRank tb p′ x y′ (p′ .len y′)) (h′ .2) (f′ .takes y′ (h′ .1) (omega (arith, h′ .2))) in
       let u =
       takes-unique tb (unplaced p′ s) (blocking tb p′ s) (unplaced p′ s) y (p .len y) y′ (p′ .len y′)
-      (takes-alike tb (unplaced p s) (unplaced p′ s) (blocking tb p s) (blocking tb p′ s) y (p .len y) pos (agree-alike tb p p′ s a) t) t′ in
+      (takes-alike tb (unplaced p s) (unplaced p′ s) (blocking tb p s) (blocking tb p′ s) y (p .len y) pos
+      (agree-alike tb p p′ s a) t) t′ in
       by-eq j y
       (λ x. inr (
         ap (p .rank) x ∙ h .2 ∙ sym (ap (p′ .rank) (x ∙ u .0) ∙ h′ .2),
@@ -93,7 +95,8 @@ module _ (tb : Table) (pos : Positive tb) (p p′ : Plan) where
       (λ x.
       ⊎-elim
       (λ w. inl (
-        by-eq (p .rank j) s (λ v. absurd (x (f .once j y l (h .1) (omega arith) (v ∙ sym (h .2))))) (λ v. omega (arith, w .0)),
+        by-eq (p .rank j) s (λ v. absurd (x (f .once j y l (h .1) (omega arith) (v ∙ sym (h .2)))))
+            (λ v. omega (arith, w .0)),
         by-eq (p′ .rank j) s
             (λ v. absurd (x (f′ .once j y′ l (h′ .1) (omega arith) (v ∙ sym (h′ .2)) ∙ sym (u .0))))
             (λ v. omega (arith, w .1)),
@@ -118,16 +121,19 @@ chosen-unique tb p p′ pos f f′ j l =
     (filled-agree tb pos p p′ 0 (omega arith) f f′ j l)
 
 -- where no row fits at a rank, no plan is filled past it
-pub none-past : (tb : Table) (p p′ : Plan) (r s : ℕ) → Positive tb → s ≤ tb .n → Filled tb p s → NoneFitsRank tb p s → Filled tb p′ r → ¬ (r < s)
+pub none-past : (tb : Table) (p p′ : Plan) (r s : ℕ) → Positive tb → s ≤ tb .n → Filled tb p s → NoneFitsRank tb p s →
+    Filled tb p′ r → ¬ (r < s)
 none-past tb p p′ r zero pos h f none f′ lt = omega arith
 none-past tb p p′ r (suc s) pos h f none f′ lt =
     let k = suc s in
     let y = held tb p′ r (filled-ranked f′) s (omega arith) h in
-    let t = subst (λ x. TakesRank tb p′ x (y .0) (p′ .len (y .0))) (y .2) (f′ .takes (y .0) (y .1) (omega (arith, y .2))) in
+    let t = subst (λ x. TakesRank tb p′ x (y .0) (p′ .len (y .0))) (y .2)
+    (f′ .takes (y .0) (y .1) (omega (arith, y .2))) in
     let a = agree-alike tb p′ p k (filled-agree tb pos p′ p k h (filled-more k f′ (omega arith) h) f) in
     let q = p′ .len (y .0) in
     none (y .0) q (y .1) (sym (a .rows (y .0) (y .1)) ∙ t .try) (t .shortest .low) (t .shortest .holds .0)
-    (fits-alike tb pos (unplaced p′ k) (unplaced p k) (blocking tb p′ k) (blocking tb p k) a (y .0) q (y .1) (t .shortest .low)
+    (fits-alike tb pos (unplaced p′ k) (unplaced p k) (blocking tb p′ k) (blocking tb p k) a (y .0) q (y .1)
+    (t .shortest .low)
     (t .shortest .holds .0) (t .shortest .holds .1))
 
 -- the choice does not both end and stop
@@ -140,7 +146,8 @@ pub stopped-unique : (tb : Table) → Positive tb → (s s′ : Stopped tb) → 
 stopped-unique tb pos s s′ =
     let a = none-past tb (s .plan) (s′ .plan) (s′ .rank) (s .rank) pos (s .high) (s .filled) (s .none) (s′ .filled) in
     let b = none-past tb (s′ .plan) (s .plan) (s .rank) (s′ .rank) pos (s′ .high) (s′ .filled) (s′ .none) (s .filled) in
-    by-le (s .rank) (s′ .rank) (λ h. by-le (s′ .rank) (s .rank) (λ g. omega arith) (λ g. absurd (b g))) (λ h. absurd (a h))
+    by-le (s .rank) (s′ .rank) (λ h. by-le (s′ .rank) (s .rank) (λ g. omega arith) (λ g. absurd (b g)))
+    (λ h. absurd (a h))
 
 -- two plans have the same ranks and lengths
 abbrev pub Same : Table → Plan → Plan → Type 0

@@ -1,4 +1,5 @@
--- Laws of one level: what a length that fits is compared with, the shortest length exists, and one row at most takes a rank.
+-- Laws of one level: what a length that fits is compared with, the shortest length exists, and one row at most takes a
+-- rank.
 use Prim.Native.Nat.{ℕ, zero, suc, _+_, _-_, _≤_, _<_}
 use mathlib.Core.Path.{_≡_, ap, sym, _∙_, subst}
 use mathlib.Core.Bool.{Bool, true, _&&_, not}
@@ -41,17 +42,24 @@ module _ (tb : Table) (pos : Positive tb) (z : ℕ) (l : z < tb .n) where
         let r = response-exists tb P b z q pos l some most L a in
         by-le (r .0) (tb .D z)
         (λ h. fit (record { R = r .0; response = r .1; within = h }))
-        (λ h. miss (λ f. absurd (omega (arith, f .within, response-unique tb P b z q (r .0) (f .R) (r .1) (f .response)))))
+        (λ h. miss (λ f. absurd (omega (
+          arith,
+          f .within,
+          response-unique tb P b z q (r .0) (f .R) (r .1)
+              (f .response),
+        ))))
 
     -- where a length fits there is a shortest, and no later: go down from it
-    pub least-fit : (k q : ℕ) → q ≤ k → 1 ≤ q → q ≤ cap tb z → Fits tb P b z q → (m : ℕ) × Least (λ l. (l ≤ cap tb z) × Fits tb P b z l) 1 m × (m ≤ q)
+    pub least-fit : (k q : ℕ) → q ≤ k → 1 ≤ q → q ≤ cap tb z → Fits tb P b z q →
+        (m : ℕ) × Least (λ l. (l ≤ cap tb z) × Fits tb P b z l) 1 m × (m ≤ q)
     least-fit zero q h some most f = absurd (omega arith)
     least-fit (suc k) q h some most f =
         by-eq q 1
         (λ e. (q, record { low = some; holds = (most, f); least = λ u a _. omega arith }, omega arith))
         (λ e.
         fits-or-not (f .response .period) (f .response .active) (q - 1) (omega arith) (omega arith)
-        (λ y. let r = least-fit k (q - 1) (omega arith) (omega arith) (omega arith) y in (r .0, r .1, omega (arith, r .2)))
+        (λ y. let r = least-fit k (q - 1) (omega arith) (omega arith) (omega arith) y in
+        (r .0, r .1, omega (arith, r .2)))
         (λ n. (
           q,
           record {
@@ -65,7 +73,8 @@ module _ (tb : Table) (pos : Positive tb) (z : ℕ) (l : z < tb .n) where
         )))
 
 -- the row that takes a rank, against any length that fits of any row that is tried
-pub takes-least : (tb : Table) (U : ℕ → Bool) (b : ℕ) (tried : ℕ → Bool) (y q z l : ℕ) → Positive tb → Takes tb U b tried y q →
+pub takes-least : (tb : Table) (U : ℕ → Bool) (b : ℕ) (tried : ℕ → Bool) (y q z l : ℕ) → Positive tb →
+    Takes tb U b tried y q →
     z < tb .n → tried z ≡ true → 1 ≤ l → l ≤ cap tb z → Fits tb (without U z) b z l → (q ≤ l) × (q ≡ l → y ≤ z)
 takes-least tb U b tried y q z l pos t g e some most f =
     let s = least-fit tb pos z g (without U z) b l l (omega arith) some most f in
@@ -98,7 +107,8 @@ pub alike-sym : {tb : Table} {U U′ : ℕ → Bool} {b b′ : ℕ} → Alike tb
 alike-sym a = record { rows = λ j l. sym (a .rows j l); blocking = sym (a .blocking) }
 
 module _ (tb : Table) (pos : Positive tb) (U U′ : ℕ → Bool) (b b′ : ℕ) (same : Alike tb U U′ b b′) where
-  pub fits-alike : (z q : ℕ) → z < tb .n → 1 ≤ q → q ≤ cap tb z → Fits tb (without U z) b z q → Fits tb (without U′ z) b′ z q
+  pub fits-alike : (z q : ℕ) → z < tb .n → 1 ≤ q → q ≤ cap tb z → Fits tb (without U z) b z q →
+      Fits tb (without U′ z) b′ z q
   fits-alike z q l some most f =
       fits-compare tb pos z l (without U′ z) (without U z) b′ b q some most
       (λ t _.
@@ -133,6 +143,7 @@ takes-alike tb U U′ b b′ y q pos same t =
           t .earliest z h (same .rows z g ∙ e) (shortest-alike tb U′ U b′ b z q pos (alike-sym same) g s);
     }
 
-pub none-alike : (tb : Table) (U U′ : ℕ → Bool) (b b′ : ℕ) → Positive tb → Alike tb U U′ b b′ → NoneFits tb U b U → NoneFits tb U′ b′ U′
+pub none-alike : (tb : Table) (U U′ : ℕ → Bool) (b b′ : ℕ) → Positive tb → Alike tb U U′ b b′ → NoneFits tb U b U →
+    NoneFits tb U′ b′ U′
 none-alike tb U U′ b b′ pos same none z q l e some most f =
     none z q l (same .rows z l ∙ e) some most (fits-alike tb pos U′ U b′ b (alike-sym same) z q l some most f)

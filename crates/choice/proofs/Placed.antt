@@ -24,7 +24,8 @@ filled-none tb p h =
     record {
       high = λ i l. omega (arith, h i l);
       once = λ i j a b c. absurd (omega (arith, h i a));
-      left = count-ext (unplaced p (tb .n)) (λ _. true) (tb .n) (λ j l. le-leb (p .rank j) (tb .n) (omega (arith, h j l))) ∙ count-all (tb .n);
+      left = count-ext (unplaced p (tb .n)) (λ _. true) (tb .n)
+          (λ j l. le-leb (p .rank j) (tb .n) (omega (arith, h j l))) ∙ count-all (tb .n);
       takes = λ y l c. absurd (omega (arith, h y l));
     }
 
@@ -35,7 +36,8 @@ pub record Placed (tb : Table) (p p′ : Plan) (s y q : ℕ) : Type 0 where
   pub others : (j : ℕ) → j < tb .n → ¬ (j ≡ y) → (p′ .rank j ≡ p .rank j) × (p′ .len j ≡ p .len j)
 
 -- filled one rank further, by the row that takes it
-module _ (tb : Table) (pos : Positive tb) (p p′ : Plan) (r y q : ℕ) (f : Filled tb p (suc r)) (free : (j : ℕ) → j < tb .n → ¬ (p .rank j ≡ suc r))
+module _ (tb : Table) (pos : Positive tb) (p p′ : Plan) (r y q : ℕ) (f : Filled tb p (suc r))
+    (free : (j : ℕ) → j < tb .n → ¬ (p .rank j ≡ suc r))
     (t : TakesRank tb p (suc r) y q) (h : Placed tb p p′ (suc r) y q) where
   -- row y had no rank greater than r + 1
   before-placed : p .rank y ≤ suc r
@@ -68,9 +70,11 @@ module _ (tb : Table) (pos : Positive tb) (p p′ : Plan) (r y q : ℕ) (f : Fil
             (λ e. subst (λ z. TakesRank tb p′ (p′ .rank z) z (p′ .len z)) (sym e) mine)
             (λ e.
             let o = h .others x l e in
-            let above : suc r < p .rank x = by-eq (p .rank x) (suc r) (λ z. absurd (free x l z)) (λ z. omega (arith, o .0)) in
+            let above : suc r < p .rank x = by-eq (p .rank x) (suc r) (λ z. absurd (free x l z))
+            (λ z. omega (arith, o .0)) in
             subst (λ z. TakesRank tb p′ z x (p′ .len x)) (sym (o .0))
-            (subst (λ z. TakesRank tb p′ (p .rank x) x z) (sym (o .1)) (placed-takes (p .rank x) x (p .len x) (omega arith) (f .takes x l above))));
+            (subst (λ z. TakesRank tb p′ (p .rank x) x z) (sym (o .1))
+            (placed-takes (p .rank x) x (p .len x) (omega arith) (f .takes x l above))));
       }
     where
       room : suc r ≤ tb .n
@@ -101,7 +105,8 @@ module _ (tb : Table) (pos : Positive tb) (p p′ : Plan) (r y q : ℕ) (f : Fil
           omega (
             arith,
             f .left,
-            count-ext (unplaced p (suc r)) u (tb .n) (agree-alike tb p p′ (suc r) (placed-agree (suc r) (omega arith)) .rows),
+            count-ext (unplaced p (suc r)) u (tb .n)
+                (agree-alike tb p p′ (suc r) (placed-agree (suc r) (omega arith)) .rows),
             count-without u y (tb .n) (t .row) (le-leb (p′ .rank y) (suc r) (omega (arith, h .rank))),
             count-ext (unplaced p′ r) (without u y) (tb .n)
                 (λ j l. unplaced-next p′ r y j (h .rank) (λ e. once j y l (t .row) (omega arith) (e ∙ sym (h .rank)))),
@@ -138,5 +143,6 @@ module _ (tb : Table) (pos : Positive tb) (p p′ : Plan) (r y q : ℕ) (f : Fil
           (λ x. omega (arith, e, h .len, ap (p′ .len) x))
           (λ x.
           let o = h .others j l x in
-          let above : suc r < p .rank j = by-eq (p .rank j) (suc r) (λ z. absurd (free j l z)) (λ z. omega (arith, o .0)) in
+          let above : suc r < p .rank j = by-eq (p .rank j) (suc r) (λ z. absurd (free j l z))
+          (λ z. omega (arith, o .0)) in
           omega (arith, e, o .1, longest-ge tb p (suc r) j l above)))

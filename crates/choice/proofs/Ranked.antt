@@ -8,7 +8,8 @@ use borrow.Author.Tests.{eqb-true, eq-eqb, le-leb, lt-leb}
 use Rattle.counting.specs.Sum.{given, without, count}
 use Rattle.counting.proofs.Cases.{by-bool, by-le, by-eq, not-both}
 use Rattle.counting.proofs.Search.{all, all-at, all-not}
-use Rattle.counting.proofs.Sum.{without-same, without-other, given-no, given-sub, sum-le, sum-ext, sum-zero, count-without, count-all}
+use Rattle.counting.proofs.Sum.{without-same, without-other, given-no, given-sub, sum-le, sum-ext, sum-zero}
+use Rattle.counting.proofs.Sum.{count-without, count-all}
 use Rattle.tables.specs.Table.{Table}
 use Rattle.tables.specs.Plan.{Plan, WellFormed}
 use Rattle.choice.specs.Choice.{unplaced}
@@ -37,32 +38,38 @@ count-le P n =
     )
 
 -- the row of a rank, or there is none
-pub holder {ℓ} : {X : Type ℓ} (p : Plan) (n s : ℕ) → ((y : ℕ) → y < n → p .rank y ≡ s → X) → (((j : ℕ) → j < n → ¬ (p .rank j ≡ s)) → X) → X
+pub holder {ℓ} : {X : Type ℓ} (p : Plan) (n s : ℕ) → ((y : ℕ) → y < n → p .rank y ≡ s → X) →
+    (((j : ℕ) → j < n → ¬ (p .rank j ≡ s)) → X) → X
 holder p n s some none =
     let other : ℕ → Bool = λ j. not (eqb (p .rank j) s) in
     by-bool (all other n)
     (λ e. none (λ j l h. not-both (other j) (ap not (eq-eqb (p .rank j) s h)) (all-at other n e j l)))
     (λ e.
     let r = all-not other n e in
-    some (r .0) (r .1) (by-bool (eqb (p .rank (r .0)) s) (λ t. eqb-true (p .rank (r .0)) s t) (λ f. not-both (other (r .0)) (r .2) (ap not f))))
+    some (r .0) (r .1) (by-bool (eqb (p .rank (r .0)) s) (λ t. eqb-true (p .rank (r .0)) s t)
+    (λ f. not-both (other (r .0)) (r .2) (ap not f))))
 
 -- the rows not placed once rank s + 1 is: those before, without its row
 pub unplaced-next : (p : Plan) (s y j : ℕ) → p .rank y ≡ suc s → (p .rank j ≡ suc s → j ≡ y) →
     unplaced p s j ≡ without (unplaced p (suc s)) y j
 unplaced-next p s y j e once =
     by-eq j y
-    (λ q. lt-leb (p .rank j) s (omega (arith, ap (p .rank) q)) ∙ sym (ap (without (unplaced p (suc s)) y) q ∙ without-same (unplaced p (suc s)) y))
+    (λ q. lt-leb (p .rank j) s (omega (arith, ap (p .rank) q)) ∙ sym
+    (ap (without (unplaced p (suc s)) y) q ∙ without-same (unplaced p (suc s)) y))
     (λ q.
     by-le (p .rank j) s
-    (λ h. le-leb (p .rank j) s h ∙ sym (without-other (unplaced p (suc s)) y j q ∙ le-leb (p .rank j) (suc s) (omega arith)))
+    (λ h. le-leb (p .rank j) s h ∙ sym (without-other (unplaced p (suc s)) y j q
+    ∙ le-leb (p .rank j) (suc s) (omega arith)))
     (λ h.
     by-eq (p .rank j) (suc s)
     (λ x. absurd (q (once x)))
-    (λ x. lt-leb (p .rank j) s h ∙ sym (without-other (unplaced p (suc s)) y j q ∙ lt-leb (p .rank j) (suc s) (omega arith)))))
+    (λ x. lt-leb (p .rank j) s h ∙ sym (without-other (unplaced p (suc s)) y j q
+    ∙ lt-leb (p .rank j) (suc s) (omega arith)))))
 
 module _ (tb : Table) (p : Plan) (r : ℕ) (k : Ranked tb p r) where
   -- how many rows are not placed rises by one where the rank is held, and by none where it is not
-  count-held : (s y : ℕ) → r ≤ s → y < tb .n → p .rank y ≡ suc s → count (unplaced p s) (tb .n) + 1 ≡ count (unplaced p (suc s)) (tb .n)
+  count-held : (s y : ℕ) → r ≤ s → y < tb .n → p .rank y ≡ suc s →
+      count (unplaced p s) (tb .n) + 1 ≡ count (unplaced p (suc s)) (tb .n)
   count-held s y h l e =
       omega (
         arith,
@@ -71,7 +78,8 @@ module _ (tb : Table) (p : Plan) (r : ℕ) (k : Ranked tb p r) where
             (λ j g. unplaced-next p s y j e (λ x. k .once j y g l (omega arith) (x ∙ sym e))),
       )
 
-  count-bare : (s : ℕ) → ((j : ℕ) → j < tb .n → ¬ (p .rank j ≡ suc s)) → count (unplaced p s) (tb .n) ≡ count (unplaced p (suc s)) (tb .n)
+  count-bare : (s : ℕ) → ((j : ℕ) → j < tb .n → ¬ (p .rank j ≡ suc s)) →
+      count (unplaced p s) (tb .n) ≡ count (unplaced p (suc s)) (tb .n)
   count-bare s none =
       count-ext (unplaced p s) (unplaced p (suc s)) (tb .n)
       (λ j l.
@@ -87,7 +95,12 @@ module _ (tb : Table) (p : Plan) (r : ℕ) (k : Ranked tb p r) where
       holder p (tb .n) (suc s) (λ y l e. omega (arith, count-held s y h l e)) (λ none. omega (arith, count-bare s none))
 
   count-most : (d : ℕ) → count (unplaced p (r + d)) (tb .n) ≤ r + d
-  count-most zero = omega (arith, k .left, ap (λ x. count (unplaced p x) (tb .n)) (let e : r + 0 ≡ r = omega arith in e))
+  count-most zero = omega (
+    arith,
+    k .left,
+    ap (λ x. count (unplaced p x) (tb .n))
+        (let e : r + 0 ≡ r = omega arith in e),
+  )
   count-most (suc d) =
       omega (
         arith,
@@ -120,7 +133,13 @@ module _ (tb : Table) (p : Plan) (r : ℕ) (k : Ranked tb p r) where
   held s h g =
       holder p (tb .n) (suc s)
       (λ y l e. (y, l, e))
-      (λ none. absurd (omega (arith, count-bare s none, ranked-left s h (omega arith), ranked-left (suc s) (omega arith) g)))
+      (λ none. absurd (omega (
+        arith,
+        count-bare s none,
+        ranked-left s h (omega arith),
+        ranked-left (suc s) (omega arith)
+            g,
+      )))
 
 -- the ranks of a well-formed plan
 pub ranked-well : (tb : Table) (p : Plan) → WellFormed tb p → Ranked tb p 0
@@ -128,6 +147,5 @@ ranked-well tb p wf =
     record {
       high = wf .rank-high;
       once = λ i j a b _. wf .once i j a b;
-      left =
-          count-none (unplaced p 0) (tb .n) (λ j l. lt-leb (p .rank j) 0 (wf .rank-low j l));
+      left = count-none (unplaced p 0) (tb .n) (λ j l. lt-leb (p .rank j) 0 (wf .rank-low j l));
     }

@@ -29,4 +29,5 @@ pub record PlanGiven (tb : Table) (out : List ℕ) (value : ℕ) (after : List �
 abbrev pub PlanAnswer : List ℕ → List ℕ → Result → Type 0
 PlanAnswer xs out r =
     let tb = tableOf xs in
-    Answered (shape xs ∷ range xs ∷ room (planned-width * tb .n) out ∷ no-busy tb ∷ no-plan tb ∷ []) (PlanGiven tb out) out r
+    Answered (shape xs ∷ range xs ∷ room (planned-width * tb .n) out ∷ no-busy tb ∷ no-plan tb ∷ []) (PlanGiven tb out)
+    out r

@@ -1,4 +1,5 @@
--- Laws of the least number of a kind, and of the least fixed point of a function that never falls: bound, below, compare, iterate.
+-- Laws of the least number of a kind, and of the least fixed point of a function that never falls: bound, below,
+-- compare, iterate.
 use Prim.Native.Nat.{ℕ, zero, suc, _+_, _-_, _≤_, _<_}
 use mathlib.Core.Path.{_≡_, refl, ap, sym, _∙_}
 use mathlib.Core.Bool.{Bool, true, false}
@@ -13,7 +14,8 @@ pub least-unique : {E : ℕ → Type 0} {lo a b : ℕ} → Least E lo a → Leas
 least-unique {E} {lo} {a} {b} l m = omega (arith, l .least b (m .low) (m .holds), m .least a (l .low) (l .holds))
 
 -- the same kind, said in another way
-pub least-map : {E F : ℕ → Type 0} {lo a : ℕ} → ((t : ℕ) → lo ≤ t → E t → F t) → ((t : ℕ) → lo ≤ t → F t → E t) → Least E lo a → Least F lo a
+pub least-map : {E F : ℕ → Type 0} {lo a : ℕ} → ((t : ℕ) → lo ≤ t → E t → F t) → ((t : ℕ) → lo ≤ t → F t → E t) →
+    Least E lo a → Least F lo a
 least-map f g l = record { low = l .low; holds = f _ (l .low) (l .holds); least = λ u h e. l .least u h (g u h e) }
 
 -- where a test says whether E holds, and E holds somewhere, there is a least
@@ -28,7 +30,8 @@ least-of P sound complete lo u h e =
         holds = sound (first P k lo) (r .0);
         least =
             λ v a g. by-le (first P k lo) v (λ q. q)
-            (λ q. absurd (let z : _≡_ {A = ℕ} 0 1 = ne (P v) (first-before P k lo v a q) (complete v g) in omega arith));
+            (λ q. absurd (let z : _≡_ {A = ℕ} 0 1 = ne (P v) (first-before P k lo v a q) (complete v g) in
+            omega arith));
       },
       r .1,
     )
@@ -70,7 +73,8 @@ module _ (f : ℕ → ℕ) (mono : Mono f) (lo : ℕ) (up : lo ≤ f lo) where
   least-below {t} u l a b = by-le (f u) u (λ h. absurd (omega (arith, least-prefix u l a h))) (λ h. h)
 
 -- Compare: a smaller function has its least fixed point, and no larger one
-pub least-compare : (f g : ℕ → ℕ) (lo : ℕ) {b : ℕ} → Mono f → lo ≤ f lo → ((u : ℕ) → lo ≤ u → f u ≤ g u) → LeastFixed g lo b →
+pub least-compare : (f g : ℕ → ℕ) (lo : ℕ) {b : ℕ} → Mono f → lo ≤ f lo → ((u : ℕ) → lo ≤ u → f u ≤ g u) →
+    LeastFixed g lo b →
     (a : ℕ) × LeastFixed f lo a × (a ≤ b)
 least-compare f g lo {b} mono up le m = least-bound f mono lo up b (m .low) (omega (arith, le b (m .low), m .holds))
 
@@ -85,7 +89,8 @@ pub climbing-lo : (f : ℕ → ℕ) (lo : ℕ) → lo ≤ f lo → Climbing f lo
 climbing-lo f lo h = record { low = omega arith; up = h; under = λ u a _. a }
 
 -- a lower bound of the least fixed point is a lawful start
-pub climbing-below : (f : ℕ → ℕ) (lo x : ℕ) {t : ℕ} → Mono f → lo ≤ f lo → LeastFixed f lo t → lo ≤ x → x ≤ t → Climbing f lo x
+pub climbing-below : (f : ℕ → ℕ) (lo x : ℕ) {t : ℕ} → Mono f → lo ≤ f lo → LeastFixed f lo t → lo ≤ x → x ≤ t →
+    Climbing f lo x
 climbing-below f lo x {t} mono up l a b =
     record {
       low = a;

@@ -25,7 +25,8 @@ first-miss P k t e = rw (e, first)
 pub first-ge : (P : ℕ → Bool) (k t : ℕ) → t ≤ first P k t
 first-ge P zero t = rw first-zero (omega arith)
 first-ge P (suc k) t =
-    by-bool (P t) (λ e. rw (first-hit P k t e) (omega arith)) (λ e. rw (first-miss P k t e) (omega (arith, first-ge P k (suc t))))
+    by-bool (P t) (λ e. rw (first-hit P k t e) (omega arith))
+    (λ e. rw (first-miss P k t e) (omega (arith, first-ge P k (suc t))))
 
 -- below the first the test fails
 pub first-before : (P : ℕ → Bool) (k t u : ℕ) → t ≤ u → u < first P k t → P u ≡ false
@@ -36,7 +37,8 @@ first-before P (suc k) t u a b =
     (λ e. by-eq t u (λ q. rw (← q) e) (λ q. first-before P k (suc t) u (omega arith) (rw (first-miss P k t e) at b)))
 
 -- what passes within the bound is found, or something before it
-pub first-found : (P : ℕ → Bool) (k t u : ℕ) → t ≤ u → u < t + k → P u ≡ true → (P (first P k t) ≡ true) × (first P k t ≤ u)
+pub first-found : (P : ℕ → Bool) (k t u : ℕ) → t ≤ u → u < t + k → P u ≡ true →
+    (P (first P k t) ≡ true) × (first P k t ≤ u)
 first-found P zero t u a b e = absurd (omega arith)
 first-found P (suc k) t u a b e =
     by-bool (P t)

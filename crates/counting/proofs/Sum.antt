@@ -64,7 +64,8 @@ sum-without U y f (suc n) h e =
     (λ q.
     omega (
       arith,
-      sum-ext (λ j. given (without U y j) (f j)) (λ j. given (U j) (f j)) n (λ j l. ap (λ b. given b (f j)) (without-other U y j (omega arith))),
+      sum-ext (λ j. given (without U y j) (f j)) (λ j. given (U j) (f j)) n
+          (λ j l. ap (λ b. given b (f j)) (without-other U y j (omega arith))),
       given-no (without U y n) (f n) (rw q (without-same U y)),
       given-yes (U n) (f n) (rw q e),
       ap f q,
@@ -85,7 +86,8 @@ pub given-sub : (a b : Bool) (x : ℕ) → (a ≡ true → b ≡ true) → given
 given-sub true b x h = rw (h refl) (omega arith)
 given-sub false b x h = omega arith
 
-pub largest-cases {ℓ} : {X : Type ℓ} (f : ℕ → ℕ) (n : ℕ) → (largest f n ≡ 0 → X) → ((j : ℕ) → j < n → largest f n ≡ f j → X) → X
+pub largest-cases {ℓ} : {X : Type ℓ} (f : ℕ → ℕ) (n : ℕ) → (largest f n ≡ 0 → X) →
+    ((j : ℕ) → j < n → largest f n ≡ f j → X) → X
 unfolding largest
 largest-cases f zero a b = a refl
 largest-cases f (suc n) a b =
@@ -182,7 +184,8 @@ sum-front f m (suc n) l =
     (omega (
       arith,
       given-yes (ltb n (suc n)) (f n) (lt-ltb n (suc n) (omega arith)),
-      sum-ext (λ k. given (ltb k (suc n)) (f k)) f n (λ k g. given-yes (ltb k (suc n)) (f k) (lt-ltb k (suc n) (omega arith))),
+      sum-ext (λ k. given (ltb k (suc n)) (f k)) f n
+          (λ k g. given-yes (ltb k (suc n)) (f k) (lt-ltb k (suc n) (omega arith))),
     )))
 
 pub sum-ge : (f : ℕ → ℕ) (n j : ℕ) → j < n → f j ≤ sum f n

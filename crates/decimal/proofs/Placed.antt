@@ -30,7 +30,8 @@ module _ (b : List ℕ) (at : ℕ) (t : List ℕ) (fits : at + length t ≤ leng
       ∙ ap (drop (length u)) (drop-at (take at b ++ t) (drop n b) n front-length)
       ∙ drop-drop (length u) n b in
       let e : n + length u ≡ at + length (t ++ u) = (let l = length-append t u in omega arith) in
-      ap (λ (l : List ℕ). l ++ u ++ drop (n + length u) (placed b at t)) (take-at (take at b ++ t) (drop n b) n front-length)
+      ap (λ (l : List ℕ). l ++ u ++ drop (n + length u) (placed b at t))
+      (take-at (take at b ++ t) (drop n b) n front-length)
       ∙ ap (λ (l : List ℕ). take at b ++ t ++ u ++ l) d
       ∙ rw (e, append-assoc (take at b) t u)
 
@@ -40,16 +41,19 @@ pub placed-before : (b : List ℕ) (at v : ℕ) (t : List ℕ) → at + 1 + leng
 placed-before b at v t fits =
     let n : length (take (at + 1) b) ≡ at + 1 = length-take-le (at + 1) b (omega arith) in
     let more = t ++ drop (at + 1 + length t) b in
-    let e : placed b (at + 1) t ≡ take (at + 1) b ++ more = append-assoc (take (at + 1) b) t (drop (at + 1 + length t) b) in
+    let e : placed b (at + 1) t ≡ take (at + 1) b ++ more =
+    append-assoc (take (at + 1) b) t (drop (at + 1 + length t) b) in
     let front : take at (take (at + 1) b ++ more) ≡ take at b =
     take-append-le at (take (at + 1) b) more (omega arith) ∙ take-take at (at + 1) b (omega arith) in
-    let rest : drop (suc at) (take (at + 1) b ++ more) ≡ more = drop-at (take (at + 1) b) more (suc at) (n ∙ add-one at) in
+    let rest : drop (suc at) (take (at + 1) b ++ more) ≡ more =
+    drop-at (take (at + 1) b) more (suc at) (n ∙ add-one at) in
     let m : at + 1 + length t ≡ at + length (v ∷ t) = omega arith in
     set-split (placed b (at + 1) t) at v (omega (arith, length-placed b (at + 1) t fits))
     ∙ rw (e, front, rest, m, append-assoc)
 
 -- a text put behind a text that was put
-pub put-behind : {b t c u d : List ℕ} {at m n : ℕ} → at + length t ≤ length b → Put b at t c m → Put c m u d n → Put b at (t ++ u) d n
+pub put-behind : {b t c u d : List ℕ} {at m n : ℕ} → at + length t ≤ length b → Put b at t c m → Put c m u d n →
+    Put b at (t ++ u) d n
 put-behind {b} {t} {c} {u} {d} {at} {m} {n} fits p q =
     record {
       behind = q .behind ∙ ap (λ (k : ℕ). k + length u) (p .behind) ∙ (let e = length-append t u in omega arith);

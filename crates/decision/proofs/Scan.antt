@@ -35,14 +35,20 @@ pub record Best (tb : Table) (p : Plan) (heads done : List ℕ) (next i best lea
   pub own : least ≡ urgency tb p best (getD done best 0)
   pub earliest : (j : ℕ) → j < best → getD heads j 0 < next → least < urgency tb p j (getD done j 0)
 
--- `best` is the foremost of the rows before row i and `least` its urgency; where none waits, `best` is n and `least` stands above every rank
+-- `best` is the foremost of the rows before row i and `least` its urgency; where none waits, `best` is n and `least`
+-- stands above every rank
 pub record Scanned (tb : Table) (p : Plan) (heads done : List ℕ) (next above i best least : ℕ) : Type 0 where
   pub high : i ≤ tb .n
   pub low : (j : ℕ) → j < i → getD heads j 0 < next → least ≤ urgency tb p j (getD done j 0)
   pub found : ((best ≡ tb .n) × (least ≡ above)) ⊎ Best tb p heads done next i best least
 
-pub scan-none : (tb : Table) (p : Plan) (heads done : List ℕ) (next above : ℕ) → Scanned tb p heads done next above 0 (tb .n) above
-scan-none tb p heads done next above = record { high = omega arith; low = λ j h. absurd (omega arith); found = inl (refl, refl) }
+pub scan-none : (tb : Table) (p : Plan) (heads done : List ℕ) (next above : ℕ) →
+    Scanned tb p heads done next above 0 (tb .n) above
+scan-none tb p heads done next above = record {
+  high = omega arith;
+  low = λ j h. absurd (omega arith);
+  found = inl (refl, refl);
+}
 
 module _ {tb : Table} {p : Plan} {heads done : List ℕ} {next above i best least : ℕ}
     (s : Scanned tb p heads done next above i best least) (l : i < tb .n) where
@@ -56,7 +62,12 @@ module _ {tb : Table} {p : Plan} {heads done : List ℕ} {next above i best leas
         found =
             ⊎-elim
             inl
-            (λ f. inr (record { before = omega (arith, f .before); waits = f .waits; own = f .own; earliest = f .earliest }))
+            (λ f. inr (record {
+              before = omega (arith, f .before);
+              waits = f .waits;
+              own = f .own;
+              earliest = f .earliest;
+            }))
             (s .found);
       }
 
@@ -67,7 +78,12 @@ module _ {tb : Table} {p : Plan} {heads done : List ℕ} {next above i best leas
         high = omega arith;
         low = λ j g v. by-eq j i (λ e. rw e (omega arith)) (λ e. omega (arith, s .low j (omega arith) v));
         found =
-            inr (record { before = omega arith; waits = w; own = refl; earliest = λ j g v. omega (arith, s .low j g v) });
+            inr (record {
+              before = omega arith;
+              waits = w;
+              own = refl;
+              earliest = λ j g v. omega (arith, s .low j g v);
+            });
       }
 
 pub scan-end : {tb : Table} {p : Plan} {heads done : List ℕ} {next above i best least : ℕ} →

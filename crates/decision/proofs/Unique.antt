@@ -1,4 +1,5 @@
--- Any two results that the promise of a function of this crate allows are equal; `held` and `urgency_of` promise an equation.
+-- Any two results that the promise of a function of this crate allows are equal; `held` and `urgency_of` promise an
+-- equation.
 use Prim.Native.Nat.{ℕ, _<_}
 use mathlib.Core.Path.{_≡_, sym, _∙_}
 use mathlib.Core.Bool.{Bool}
@@ -33,7 +34,8 @@ heads-unique js n l m a b =
 
 pub released-unique : (js : Jobs) (from t k l : ℕ) → Released js from t k → Released js from t l → k ≡ l
 released-unique js from t =
-    one-at-most {E = Released js from t} (λ k l a b h. omega (arith, a .waits (omega (arith, b .high)), b .came k (a .low) h))
+    one-at-most {E = Released js from t} (λ k l a b h. omega
+    (arith, a .waits (omega (arith, b .high)), b .came k (a .low) h))
 
 pub foremost-unique : (tb : Table) (p : Plan) (heads done : List ℕ) (next i j : ℕ) →
     Foremost tb p heads done next i → Foremost tb p heads done next j → i ≡ j

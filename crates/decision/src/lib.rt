@@ -85,7 +85,8 @@ pub fn foremost(
     next: usize,
 ) -> usize
     requires { ⌜ Ruled (now table) (now plan) × ((i : ℕ) → i < tableOf (now table) .n → getD (now done) i 0 ≤ most) ⌝ }
-    ensures { λ r. ⌜ Foremost (tableOf (now (table .entry))) (planOf (now (plan .entry))) (now (heads .entry)) (now (done .entry)) next r ⌝ }
+    ensures { λ r. ⌜ Foremost (tableOf (now (table .entry))) (planOf (now (plan .entry))) (now (heads .entry))
+        (now (done .entry)) next r ⌝ }
 {
     let n = table.len() / ROW_WIDTH;
     let mut best = n;
@@ -104,7 +105,8 @@ pub fn foremost(
     best
 }
 
-// How far one decision runs: to the end of the job where it is held; else to its end or to the next release, whichever comes first.
+// How far one decision runs: to the end of the job where it is held; else to its end or to the next release, whichever
+// comes first.
 pub fn stretch(jobs: &[u32], next: usize, t: u32, left: u32, held: bool) -> u32
     requires { ⌜ (1 ≤ left) × (next < jobsOf (now jobs) .N → t < jobsOf (now jobs) .release next) ⌝ }
     ensures { λ r. ⌜ Stretch (jobsOf (now (jobs .entry))) next t left held r ⌝ }

@@ -16,7 +16,8 @@ use Rattle.choice.specs.Answers.{plannedOf, responseIn}
 use Rattle.choice.proofs.Complete.{chosen-well-formed}
 use Rattle.kernel.proofs.Finishing.{finish-least}
 use Rattle.bounds.proofs.Upper.{in-time}
-use Rattle.demands.specs.Callers.{TimesAreExact, PlanIsExact, VerdictDecides, TimesHoldInPlay, PlanHoldsInPlay, VerdictHoldsInPlay}
+use Rattle.demands.specs.Callers.{TimesAreExact, PlanIsExact, VerdictDecides, TimesHoldInPlay, PlanHoldsInPlay}
+use Rattle.demands.specs.Callers.{VerdictHoldsInPlay}
 use Rattle.demands.proofs.Gave.{PlayGave, plan-gave, times-gave, verdict-gave, play-gave}
 use Rattle.demands.proofs.Demand3.{no-job-takes-longer, some-job-takes-exactly, passing-meets, the-test-decides}
 
@@ -47,7 +48,8 @@ verdict-decides xs ps r a zero =
     let p = planOf ps in
     let g = verdict-gave xs ps r a zero in
     let sound = g .table .sound in (
-      λ yes. ⊎-elim (λ said. passing-meets tb sound p (g .plan) (said .1)) (λ said. absurd (omega (arith, said .0))) (g .given .said),
+      λ yes. ⊎-elim (λ said. passing-meets tb sound p (g .plan) (said .1)) (λ said. absurd (omega (arith, said .0)))
+          (g .given .said),
       λ meets.
           ⊎-elim (λ said. said .0)
           (λ said. absurd (g .busy 0 (refl, λ busy. said .1 (the-test-decides tb sound busy p (g .plan) .needs meets))))
@@ -83,7 +85,8 @@ plan-holds-in-play xs ps js lent-plan lent-finishes plan play la lz same pa pz k
     let p = plannedOf (plan .out) in
     let w = y .plan in
     in-play xs ps js lent-finishes play y k l (responseIn (plan .out) i)
-    (plan-alike tb p (planOf ps) (λ j m. (same .rank j m, same .len j m)) i (responseIn (plan .out) i) (sound-positive tb (y .table .sound)) il
+    (plan-alike tb p (planOf ps) (λ j m. (same .rank j m, same .len j m)) i (responseIn (plan .out) i)
+    (sound-positive tb (y .table .sound)) il
     (omega (arith, same .len i il, w .len-low i il)) (omega (arith, same .len i il, w .len-high i il))
     (plan-gave xs lent-plan plan la lz .given .responses i il))
 
@@ -92,6 +95,7 @@ verdict-holds-in-play xs ps js lent-finishes verdict play va vz one pa pz k l =
     let y = play-gave xs ps js lent-finishes play pa pz in
     let i = jobsOf js .row k in
     ⊎-elim
-    (λ a. let x = a .1 i (y .jobs .row k l) in omega (arith, x .within, in-play xs ps js lent-finishes play y k l (x .R) (x .response)))
+    (λ a. let x = a .1 i (y .jobs .row k l) in omega
+    (arith, x .within, in-play xs ps js lent-finishes play y k l (x .R) (x .response)))
     (λ a. absurd (omega (arith, a .0)))
     (verdict-gave xs ps verdict va vz .given .said)

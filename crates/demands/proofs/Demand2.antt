@@ -18,7 +18,8 @@ use Rattle.test.proofs.Plans.{plan-alike, plan-bounded}
 use Rattle.choice.specs.Choice.{Stopped}
 use Rattle.choice.specs.Answers.{plannedOf, responseIn}
 use Rattle.choice.proofs.Complete.{chosen-well-formed, chosen-passes, chosen-shortest, stopped-no-plan}
-use Rattle.demands.specs.Demand2.{TimesAreTheTests, PlannedAreTheTests, Accepted, RefusedExactlyIfNonePasses, Given, ShortestAtEachRank, Columns, PlanTimesVerdictAgree}
+use Rattle.demands.specs.Demand2.{TimesAreTheTests, PlannedAreTheTests, Accepted, RefusedExactlyIfNonePasses}
+use Rattle.demands.specs.Demand2.{Given, ShortestAtEachRank, Columns, PlanTimesVerdictAgree}
 use Rattle.demands.proofs.Gave.{PlanGave, plan-gave, times-gave, under-busy}
 use Rattle.demands.proofs.Columns.{columns-exist}
 
@@ -91,7 +92,8 @@ module _ (xs ps written : List ℕ) (pos : Positive (tableOf xs)) (g : Given (ta
 
   columns-response : (i R : ℕ) → i < tb .n → ResponseOf tb p i R → ResponseOf tb o i R
   columns-response i R l x =
-      plan-alike tb p o (λ j m. (c .rank j m, c .len j m)) i R pos l (g .well-formed .len-low i l) (g .well-formed .len-high i l) x
+      plan-alike tb p o (λ j m. (c .rank j m, c .len j m)) i R pos l (g .well-formed .len-low i l)
+      (g .well-formed .len-high i l) x
 
   columns-pass : Passes tb o
   columns-pass i l =
@@ -133,44 +135,47 @@ refused-exactly-if-none-passes xs out r able a = (refused-none, none-refused)
         (λ zero.
         let g = given-of xs out r (plan-gave xs out r a zero) in
         let c = columns-exist (tableOf xs) (r .out) in
-        absurd (none (c .0) (columns-accepted xs (c .0) (r .out) pos g (c .1)) (columns-pass xs (c .0) (r .out) pos g (c .1))))
+        absurd (none (c .0) (columns-accepted xs (c .0) (r .out) pos g (c .1))
+        (columns-pass xs (c .0) (r .out) pos g (c .1))))
 
 -- Together
-module _ (xs out : List ℕ) (r : Result) (done : PlanGave xs out r) (ps : List ℕ) (c : Columns (tableOf xs) (r .out) ps) where
-  pos : Positive (tableOf xs)
-  pos = sound-positive (tableOf xs) (done .table .sound)
+module _ (xs out : List ℕ) (r : Result) (done : PlanGave xs out r) (ps : List ℕ) (c : Columns (tableOf xs) (r .out) ps)
+  where
+    pos : Positive (tableOf xs)
+    pos = sound-positive (tableOf xs) (done .table .sound)
 
-  given : Given (tableOf xs) (plannedOf (r .out))
-  given = given-of xs out r done
+    given : Given (tableOf xs) (plannedOf (r .out))
+    given = given-of xs out r done
 
-  accepted : Accepted xs ps
-  accepted = columns-accepted xs ps (r .out) pos given c
+    accepted : Accepted xs ps
+    accepted = columns-accepted xs ps (r .out) pos given c
 
-  times-agrees : (lent : List ℕ) (s : Result) → tableOf xs .n ≤ length lent → TimesAnswer xs ps lent s →
-      (s .number ≡ 0) × ((i : ℕ) → i < tableOf xs .n → getD (s .out) i 0 ≡ responseIn (r .out) i)
-  times-agrees lent s enough a =
-      ⊎-elim (λ x. absurd (done .table .shaped (s .place) (x .place))) (λ x.
-      ⊎-elim (λ y. absurd (done .table .ranged (s .place) (y .place))) (λ y.
-      ⊎-elim (λ z. absurd (accepted (s .place) (z .place))) (λ z.
-      ⊎-elim (λ v. absurd (omega (arith, v .place))) (λ v.
-      ⊎-elim (λ w. absurd (done .busy (s .place) (w .place))) (λ w. (
-        w .1 .number,
-        λ i l.
-            response-unique (tableOf xs) _ _ i _ (getD (s .out) i 0) (responseIn (r .out) i) (w .1 .given .responses i l)
-            (columns-response xs ps (r .out) pos given c i (responseIn (r .out) i) l (done .given .responses i l)),
-      ))
-      (v .1)) (z .1)) (y .1)) (x .1)) a
+    times-agrees : (lent : List ℕ) (s : Result) → tableOf xs .n ≤ length lent → TimesAnswer xs ps lent s →
+        (s .number ≡ 0) × ((i : ℕ) → i < tableOf xs .n → getD (s .out) i 0 ≡ responseIn (r .out) i)
+    times-agrees lent s enough a =
+        ⊎-elim (λ x. absurd (done .table .shaped (s .place) (x .place))) (λ x.
+        ⊎-elim (λ y. absurd (done .table .ranged (s .place) (y .place))) (λ y.
+        ⊎-elim (λ z. absurd (accepted (s .place) (z .place))) (λ z.
+        ⊎-elim (λ v. absurd (omega (arith, v .place))) (λ v.
+        ⊎-elim (λ w. absurd (done .busy (s .place) (w .place))) (λ w. (
+          w .1 .number,
+          λ i l.
+              response-unique (tableOf xs) _ _ i _ (getD (s .out) i 0) (responseIn (r .out) i)
+              (w .1 .given .responses i l)
+              (columns-response xs ps (r .out) pos given c i (responseIn (r .out) i) l (done .given .responses i l)),
+        ))
+        (v .1)) (z .1)) (y .1)) (x .1)) a
 
-  verdict-agrees : (s : Result) → VerdictAnswer xs ps s → (s .number ≡ 0) × (s .value ≡ 1)
-  verdict-agrees s a =
-      ⊎-elim (λ x. absurd (done .table .shaped (s .place) (x .place))) (λ x.
-      ⊎-elim (λ y. absurd (done .table .ranged (s .place) (y .place))) (λ y.
-      ⊎-elim (λ z. absurd (accepted (s .place) (z .place))) (λ z.
-      ⊎-elim (λ v. absurd (done .busy (s .place) (v .place))) (λ v. (
-        v .1 .number,
-        ⊎-elim (λ yes. yes .0) (λ no. absurd (no .1 (columns-pass xs ps (r .out) pos given c))) (v .1 .given .said),
-      ))
-      (z .1)) (y .1)) (x .1)) a
+    verdict-agrees : (s : Result) → VerdictAnswer xs ps s → (s .number ≡ 0) × (s .value ≡ 1)
+    verdict-agrees s a =
+        ⊎-elim (λ x. absurd (done .table .shaped (s .place) (x .place))) (λ x.
+        ⊎-elim (λ y. absurd (done .table .ranged (s .place) (y .place))) (λ y.
+        ⊎-elim (λ z. absurd (accepted (s .place) (z .place))) (λ z.
+        ⊎-elim (λ v. absurd (done .busy (s .place) (v .place))) (λ v. (
+          v .1 .number,
+          ⊎-elim (λ yes. yes .0) (λ no. absurd (no .1 (columns-pass xs ps (r .out) pos given c))) (v .1 .given .said),
+        ))
+        (z .1)) (y .1)) (x .1)) a
 
 pub plan-times-verdict-agree : PlanTimesVerdictAgree
 plan-times-verdict-agree xs out r a zero =

@@ -12,7 +12,8 @@ use Rattle.kernel.proofs.Executed.{executed-mono, executed-run}
 use Rattle.kernel.proofs.Finishing.{finish-least}
 use Rattle.bounds.proofs.Upper.{in-time}
 use Rattle.bounds.proofs.Reached.{reached}
-use Rattle.demands.specs.Demand3.{NoJobTakesLonger, SomeJobTakesExactly, NoSmallerNumber, NoLargerNumber, EveryResponseIsExact, MeetsDeadlines, TheTestDecides}
+use Rattle.demands.specs.Demand3.{NoJobTakesLonger, SomeJobTakesExactly, NoSmallerNumber, NoLargerNumber}
+use Rattle.demands.specs.Demand3.{EveryResponseIsExact, MeetsDeadlines, TheTestDecides}
 
 pub no-job-takes-longer : NoJobTakesLonger
 no-job-takes-longer tb sound p wf i R il x js lawful k l row =
@@ -29,7 +30,8 @@ no-smaller-number tb sound p wf i R il x S never =
     let done = never (e .list) (e .lawful) (e .job) (e .is) (e .row) in
     omega (
       arith,
-      finish-least tb p (e .list) (e .job) (e .list .release (e .job) + R) (e .list .release (e .job) + S) (e .finishes) (omega arith),
+      finish-least tb p (e .list) (e .job) (e .list .release (e .job) + R) (e .list .release (e .job) + S) (e .finishes)
+          (omega arith),
     )
 
 pub no-larger-number : NoLargerNumber
@@ -37,7 +39,8 @@ no-larger-number tb sound p wf i R il x S e =
     let done = no-job-takes-longer tb sound p wf i R il x (e .list) (e .lawful) (e .job) (e .is) (e .row) in
     omega (
       arith,
-      finish-least tb p (e .list) (e .job) (e .list .release (e .job) + S) (e .list .release (e .job) + R) (e .finishes) (omega arith),
+      finish-least tb p (e .list) (e .job) (e .list .release (e .job) + S) (e .list .release (e .job) + R) (e .finishes)
+          (omega arith),
     )
 
 pub every-response-is-exact : EveryResponseIsExact
@@ -77,6 +80,7 @@ the-test-decides tb sound busy p wf =
             response = r .1;
             within =
                 no-smaller-number tb sound p wf i (r .0) il (r .1) (tb .D i)
-                (λ js lawful k l row. subst (λ h. executed tb p js (js .release k + tb .D h) k ≡ js .run k) row (meets js lawful k l));
+                (λ js lawful k l row. subst (λ h. executed tb p js (js .release k + tb .D h) k ≡ js .run k) row
+                (meets js lawful k l));
           };
     }

@@ -1,4 +1,5 @@
--- What is known of an operation that answered with the number 0: its input came past every check, and it gave what it promises.
+-- What is known of an operation that answered with the number 0: its input came past every check, and it gave what it
+-- promises.
 use Prim.Native.Nat.{ℕ, _*_, _≤_}
 use mathlib.Core.Path.{_≡_, refl}
 use mathlib.Core.List.{List, [], _∷_}
@@ -33,7 +34,8 @@ pub record PlanGave (xs out : List ℕ) (r : Result) : Type 0 where
 pub plan-gave : (xs out : List ℕ) (r : Result) → PlanAnswer xs out r → r .number ≡ 0 → PlanGave xs out r
 plan-gave xs out r a zero =
     let tb = tableOf xs in
-    let g = granted (shape xs ∷ range xs ∷ room (planned-width * tb .n) out ∷ no-busy tb ∷ no-plan tb ∷ []) (PlanGiven tb out) out r refl zero a in
+    let g = granted (shape xs ∷ range xs ∷ room (planned-width * tb .n) out ∷ no-busy tb ∷ no-plan tb ∷ [])
+    (PlanGiven tb out) out r refl zero a in
     record { table = taken xs (g .0 .0) (g .0 .1 .0); busy = g .0 .1 .1 .1 .0; given = g .1 .given }
 
 pub record TimesGave (xs ps out : List ℕ) (r : Result) : Type 0 where
@@ -44,8 +46,13 @@ pub record TimesGave (xs ps out : List ℕ) (r : Result) : Type 0 where
 pub times-gave : (xs ps out : List ℕ) (r : Result) → TimesAnswer xs ps out r → r .number ≡ 0 → TimesGave xs ps out r
 times-gave xs ps out r a zero =
     let tb = tableOf xs in
-    let g = granted (shape xs ∷ range xs ∷ plan-form tb ps ∷ room (tb .n) out ∷ no-busy tb ∷ []) (TimesGiven tb (planOf ps) out) out r refl zero a in
-    record { table = taken xs (g .0 .0) (g .0 .1 .0); plan = plan-of-clear tb ps (g .0 .1 .1 .0) .1; given = g .1 .given }
+    let g = granted (shape xs ∷ range xs ∷ plan-form tb ps ∷ room (tb .n) out ∷ no-busy tb ∷ [])
+    (TimesGiven tb (planOf ps) out) out r refl zero a in
+    record {
+      table = taken xs (g .0 .0) (g .0 .1 .0);
+      plan = plan-of-clear tb ps (g .0 .1 .1 .0) .1;
+      given = g .1 .given;
+    }
 
 pub record VerdictGave (xs ps : List ℕ) (r : Result) : Type 0 where
   pub table : TableTaken xs
@@ -56,8 +63,14 @@ pub record VerdictGave (xs ps : List ℕ) (r : Result) : Type 0 where
 pub verdict-gave : (xs ps : List ℕ) (r : Result) → VerdictAnswer xs ps r → r .number ≡ 0 → VerdictGave xs ps r
 verdict-gave xs ps r a zero =
     let tb = tableOf xs in
-    let g = granted (shape xs ∷ range xs ∷ plan-form tb ps ∷ no-busy tb ∷ []) (VerdictGiven tb (planOf ps)) [] r refl zero a in
-    record { table = taken xs (g .0 .0) (g .0 .1 .0); plan = plan-of-clear tb ps (g .0 .1 .1 .0) .1; busy = g .0 .1 .1 .1 .0; given = g .1 .given }
+    let g = granted (shape xs ∷ range xs ∷ plan-form tb ps ∷ no-busy tb ∷ []) (VerdictGiven tb (planOf ps)) [] r refl
+    zero a in
+    record {
+      table = taken xs (g .0 .0) (g .0 .1 .0);
+      plan = plan-of-clear tb ps (g .0 .1 .1 .0) .1;
+      busy = g .0 .1 .1 .1 .0;
+      given = g .1 .given;
+    }
 
 pub record PlayGave (xs ps js out : List ℕ) (r : Result) : Type 0 where
   pub table : TableTaken xs
@@ -65,12 +78,14 @@ pub record PlayGave (xs ps js out : List ℕ) (r : Result) : Type 0 where
   pub jobs : Lawful (tableOf xs) (jobsOf js)
   pub given : PlayGiven (tableOf xs) (planOf ps) (jobsOf js) out (r .value) (r .out)
 
-pub play-gave : (xs ps js out : List ℕ) (r : Result) → PlayAnswer xs ps js out r → r .number ≡ 0 → PlayGave xs ps js out r
+pub play-gave : (xs ps js out : List ℕ) (r : Result) → PlayAnswer xs ps js out r → r .number ≡ 0 →
+    PlayGave xs ps js out r
 play-gave xs ps js out r a zero =
     let tb = tableOf xs in
     let J = jobsOf js in
     let g =
-    granted (shape xs ∷ range xs ∷ plan-form tb ps ∷ jobs-shape js ∷ job-rules tb js ∷ room (J .N) out ∷ []) (PlayGiven tb (planOf ps) J out) out r refl zero a in
+    granted (shape xs ∷ range xs ∷ plan-form tb ps ∷ jobs-shape js ∷ job-rules tb js ∷ room (J .N) out ∷ [])
+    (PlayGiven tb (planOf ps) J out) out r refl zero a in
     let c = g .0 in
     record {
       table = taken xs (c .0) (c .1 .0);

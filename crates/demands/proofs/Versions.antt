@@ -1,4 +1,5 @@
--- The wrong versions are refuted, each on its named table: the answer that the promise allows there is known, and is the only one.
+-- The wrong versions are refuted, each on its named table: the answer that the promise allows there is known, and is
+-- the only one.
 use Prim.Native.Nat.{ℕ, _/_, _%_, _<_}
 use mathlib.Core.Path.{_≡_, refl, ap}
 use mathlib.Core.Bool.{true}
@@ -12,11 +13,14 @@ use Rattle.counting.specs.Sum.{sum}
 use Rattle.counting.proofs.Search.{all, all-at}
 use Rattle.tables.specs.Refusal.{Result}
 use Rattle.choice.specs.Answers.{PlanAnswer}
-use Rattle.starred.specs.Figures.{figures, further, wholly, second-table, third-table, three-rows, overloaded-table, urgent-first, three-thirds, one-tick-over}
+use Rattle.starred.specs.Figures.{figures, further, wholly, second-table, third-table, three-rows, overloaded-table}
+use Rattle.starred.specs.Figures.{urgent-first, three-thirds, one-tick-over}
 use Rattle.starred.proofs.Clears.{table-test, table-sound}
 use Rattle.starred.proofs.Figures.{starred-figures, further-figures}
 use Rattle.plan.proofs.Unique.{plan-unique}
-use Rattle.demands.specs.Versions.{Version, Words, six, nine, BreaksOn, BreaksOnOneOf, RefusesEverything, GivesAFixedPlan, LeavesTheOutput, WritesOnARefusal, SearchesTheLowestOnly, RanksByDeadline, RefusesByUtilisation, AllRefuted}
+use Rattle.demands.specs.Versions.{Version, Words, six, nine, BreaksOn, BreaksOnOneOf, RefusesEverything}
+use Rattle.demands.specs.Versions.{GivesAFixedPlan, LeavesTheOutput, WritesOnARefusal, SearchesTheLowestOnly}
+use Rattle.demands.specs.Versions.{RanksByDeadline, RefusesByUtilisation, AllRefuted}
 
 -- a slice whose numbers the checker finds to be of 32 bits
 words : (xs : List ℕ) → all (λ i. ltb (getD xs i 0) 4294967296) (length xs) ≡ true → Words xs
@@ -31,7 +35,8 @@ number-at e k = ap (λ (r : Result). getD (r .out) k 0) e
 
 module _ (f : Version) where
   -- (2,5,5) (4,7,7): (1,1,3) (2,2,7)
-  at-second : PlanAnswer second-table six (f second-table six) → f second-table six ≡ wholly (1 ∷ 1 ∷ 3 ∷ 2 ∷ 2 ∷ 7 ∷ [])
+  at-second : PlanAnswer second-table six (f second-table six) →
+      f second-table six ≡ wholly (1 ∷ 1 ∷ 3 ∷ 2 ∷ 2 ∷ 7 ∷ [])
   unfolding figures
   at-second a = plan-unique second-table six _ _ a (starred-figures .1 .0 six refl)
 
@@ -41,7 +46,8 @@ module _ (f : Version) where
   at-third a = plan-unique third-table six _ _ a (starred-figures .1 .1 .1 .1 .1 .1 .1 .0 six refl)
 
   -- (1,4,4) (1,6,6) (4,12,12): (2,1,2) (1,1,1) (3,1,8)
-  at-rows : PlanAnswer three-rows nine (f three-rows nine) → f three-rows nine ≡ wholly (2 ∷ 1 ∷ 2 ∷ 1 ∷ 1 ∷ 1 ∷ 3 ∷ 1 ∷ 8 ∷ [])
+  at-rows : PlanAnswer three-rows nine (f three-rows nine) →
+      f three-rows nine ≡ wholly (2 ∷ 1 ∷ 2 ∷ 1 ∷ 1 ∷ 1 ∷ 3 ∷ 1 ∷ 8 ∷ [])
   unfolding figures
   at-rows a = plan-unique three-rows nine _ _ a (starred-figures .1 .1 .1 .1 .1 .1 .1 .1 .1 .0 nine refl)
 
@@ -53,7 +59,8 @@ module _ (f : Version) where
   unfolding all
   fixed w a b =
       let same =
-      w second-table six (words second-table refl) (words six refl) third-table six (words third-table refl) (words six refl)
+      w second-table six (words second-table refl) (words six refl) third-table six (words third-table refl)
+      (words six refl)
       (number-of (at-second a)) (number-of (at-third b)) refl 1 (omega arith) in
       omega (arith, same .1, number-at (at-second a) 4, number-at (at-third b) 4)
 
@@ -73,7 +80,8 @@ module _ (f : Version) where
       let e =
       plan-unique overloaded-table six _ _ a
       (starred-figures .1 .1 .1 .1 .1 .1 .1 .1 .1 .1 .1 .1 .1 .1 .1 .0 six (omega arith)) in
-      w overloaded-table six (words overloaded-table refl) (words six refl) (omega (arith, number-of e)) (omega arith) (ap (λ (r : Result). r .out) e)
+      w overloaded-table six (words overloaded-table refl) (words six refl) (omega (arith, number-of e)) (omega arith)
+      (ap (λ (r : Result). r .out) e)
 
   lowest-only : SearchesTheLowestOnly (λ rank i j. rank i < rank j) f → BreaksOn three-rows nine f
   unfolding all
@@ -81,7 +89,8 @@ module _ (f : Version) where
       let e = at-rows a in
       omega (
         arith,
-        w three-rows nine (words three-rows refl) (words nine refl) (number-of e) 0 1 (omega arith) (omega arith) (omega (arith, number-at e 0))
+        w three-rows nine (words three-rows refl) (words nine refl) (number-of e) 0 1 (omega arith) (omega arith)
+            (omega (arith, number-at e 0))
             (omega (arith, number-at e 3)),
         number-at e 0,
         number-at e 3,
@@ -94,7 +103,8 @@ module _ (f : Version) where
       let e = plan-unique urgent-first nine _ _ a (further-figures .0 nine refl) in
       omega (
         arith,
-        w urgent-first nine (words urgent-first refl) (words nine refl) (number-of e) 0 2 (omega arith) (omega arith) (omega (arith, number-at e 0))
+        w urgent-first nine (words urgent-first refl) (words nine refl) (number-of e) 0 2 (omega arith) (omega arith)
+            (omega (arith, number-at e 0))
             (omega (arith, number-at e 6)),
         number-at e 0,
         number-at e 6,
@@ -106,7 +116,8 @@ module _ (f : Version) where
       let e = at-rows a in
       omega (
         arith,
-        w three-rows nine (words three-rows refl) (words nine refl) (number-of e) 0 1 (omega arith) (omega arith) (omega arith),
+        w three-rows nine (words three-rows refl) (words nine refl) (number-of e) 0 1 (omega arith) (omega arith)
+            (omega arith),
         number-at e 0,
         number-at e 3,
       )
@@ -116,7 +127,8 @@ module _ (f : Version) where
   unfolding all further table-test up sum
   rounded-up whole uneven w a =
       let e = plan-unique three-thirds nine _ _ a (further-figures .1 .0 nine refl) in
-      let four = w three-thirds nine (words three-thirds refl) (words nine refl) refl (table-sound three-thirds refl) (omega arith) .1 (omega arith) in
+      let four = w three-thirds nine (words three-thirds refl) (words nine refl) refl (table-sound three-thirds refl)
+      (omega arith) .1 (omega arith) in
       omega (arith, four, number-of e)
 
   -- (500000,1000000,1000000) (500001,1000000,1000000) is refused with 4, though the halves are rounded down
@@ -124,7 +136,8 @@ module _ (f : Version) where
   unfolding all further table-test sum
   rounded-down whole coarse w a =
       let e = plan-unique one-tick-over six _ _ a (further-figures .1 .1 .0 six (omega arith)) in
-      let over = w one-tick-over six (words one-tick-over refl) (words six refl) refl (table-sound one-tick-over refl) (omega arith) .0 (number-of e) in
+      let over = w one-tick-over six (words one-tick-over refl) (words six refl) refl (table-sound one-tick-over refl)
+      (omega arith) .0 (number-of e) in
       omega (arith, over)
 
 pub all-refuted : AllRefuted

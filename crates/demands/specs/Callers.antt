@@ -21,7 +21,8 @@ abbrev pub TimesAreExact : Type 0
 TimesAreExact =
     (xs ps out : List ℕ) (r : Result) → TimesAnswer xs ps out r → r .number ≡ 0 →
     (i : ℕ) → i < tableOf xs .n →
-    NeverLonger (tableOf xs) (planOf ps) i (getD (r .out) i 0) × TakesExactly (tableOf xs) (planOf ps) i (getD (r .out) i 0)
+    NeverLonger (tableOf xs) (planOf ps) i (getD (r .out) i 0) × TakesExactly (tableOf xs) (planOf ps) i
+    (getD (r .out) i 0)
 
 -- whatever plan wrote for a row is exact for it under the plan that it wrote
 abbrev pub PlanIsExact : Type 0
@@ -34,7 +35,8 @@ PlanIsExact =
 -- verdict said yes exactly if no job of any lawful list misses its deadline
 abbrev pub VerdictDecides : Type 0
 VerdictDecides =
-    (xs ps : List ℕ) (r : Result) → VerdictAnswer xs ps r → r .number ≡ 0 → (r .value ≡ 1) ↔ MeetsDeadlines (tableOf xs) (planOf ps)
+    (xs ps : List ℕ) (r : Result) → VerdictAnswer xs ps r → r .number ≡ 0 →
+    (r .value ≡ 1) ↔ MeetsDeadlines (tableOf xs) (planOf ps)
 
 -- whatever times wrote for a row, in whatever job list play accepted for that table and plan, the finish that play
 -- wrote is at most release plus it

@@ -12,7 +12,8 @@ use Rattle.kernel.specs.Rule.{executed, Finishes}
 -- it has executed its whole run at tick release + R
 abbrev pub NeverLonger : Table → Plan → ℕ → ℕ → Type 0
 NeverLonger tb p i R =
-    (js : Jobs) → Lawful tb js → (k : ℕ) → k < js .N → js .row k ≡ i → executed tb p js (js .release k + R) k ≡ js .run k
+    (js : Jobs) → Lawful tb js → (k : ℕ) → k < js .N → js .row k ≡ i →
+    executed tb p js (js .release k + R) k ≡ js .run k
 
 -- some job of row i takes exactly R: in a lawful list, with its releases in the order that play asks for, it is
 -- unfinished at tick release + R − 1 and finished at tick release + R
@@ -28,12 +29,14 @@ pub record TakesExactly (tb : Table) (p : Plan) (i R : ℕ) : Type 0 where
 -- The first half. Where a response exists nothing is asked of the busy period.
 abbrev pub NoJobTakesLonger : Type 0
 NoJobTakesLonger =
-    (tb : Table) → Sound tb → (p : Plan) → WellFormed tb p → (i R : ℕ) → i < tb .n → ResponseOf tb p i R → NeverLonger tb p i R
+    (tb : Table) → Sound tb → (p : Plan) → WellFormed tb p → (i R : ℕ) → i < tb .n → ResponseOf tb p i R →
+    NeverLonger tb p i R
 
 -- The second half.
 abbrev pub SomeJobTakesExactly : Type 0
 SomeJobTakesExactly =
-    (tb : Table) → Sound tb → (p : Plan) → WellFormed tb p → (i R : ℕ) → i < tb .n → ResponseOf tb p i R → TakesExactly tb p i R
+    (tb : Table) → Sound tb → (p : Plan) → WellFormed tb p → (i R : ℕ) → i < tb .n → ResponseOf tb p i R →
+    TakesExactly tb p i R
 
 -- no smaller number meets the first half, and no larger one the second
 abbrev pub NoSmallerNumber : Type 0
@@ -61,7 +64,8 @@ EveryResponseIsExact =
 -- every job of every lawful list has executed its whole run at tick release + deadline
 abbrev pub MeetsDeadlines : Table → Plan → Type 0
 MeetsDeadlines tb p =
-    (js : Jobs) → Lawful tb js → (k : ℕ) → k < js .N → executed tb p js (js .release k + tb .D (js .row k)) k ≡ js .run k
+    (js : Jobs) → Lawful tb js → (k : ℕ) → k < js .N → executed tb p js (js .release k + tb .D (js .row k)) k
+    ≡ js .run k
 
 -- a plan passes the test exactly when the kernel never misses a deadline under it
 pub record Decides (tb : Table) (p : Plan) : Type 0 where

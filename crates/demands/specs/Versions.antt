@@ -10,7 +10,8 @@ use Rattle.counting.specs.Sum.{sum}
 use Rattle.tables.specs.Table.{Sound, tableOf, row-width}
 use Rattle.tables.specs.Refusal.{Result}
 use Rattle.choice.specs.Answers.{PlanAnswer, planned-width, plannedOf}
-use Rattle.starred.specs.Figures.{second-table, third-table, three-rows, overloaded-table, urgent-first, three-thirds, one-tick-over}
+use Rattle.starred.specs.Figures.{second-table, third-table, three-rows, overloaded-table, urgent-first, three-thirds}
+use Rattle.starred.specs.Figures.{one-tick-over}
 
 -- a version of plan: a task table and a lent output to what it answers and leaves
 abbrev pub Version : Type 0
@@ -97,7 +98,10 @@ pub record AllRefuted : Type 0 where
   pub untouched : (f : Version) → LeavesTheOutput f → BreaksOn second-table six f
   pub written : (f : Version) → WritesOnARefusal f → BreaksOn overloaded-table six f
   pub lowest-only : (f : Version) → SearchesTheLowestOnly (λ rank i j. rank i < rank j) f → BreaksOn three-rows nine f
-  pub lowest-only-down : (f : Version) → SearchesTheLowestOnly (λ rank i j. rank j < rank i) f → BreaksOn urgent-first nine f
+  pub lowest-only-down : (f : Version) → SearchesTheLowestOnly (λ rank i j. rank j < rank i) f →
+      BreaksOn urgent-first nine f
   pub by-deadline : (f : Version) → RanksByDeadline f → BreaksOn three-rows nine f
-  pub rounded-up : (f : Version) (whole : ℕ) → (whole % 3 ≡ 0 → ⊥) → RefusesByUtilisation up whole f → BreaksOn three-thirds nine f
-  pub rounded-down : (f : Version) (whole : ℕ) → whole < 1000000 → RefusesByUtilisation _/_ whole f → BreaksOn one-tick-over six f
+  pub rounded-up : (f : Version) (whole : ℕ) → (whole % 3 ≡ 0 → ⊥) → RefusesByUtilisation up whole f →
+      BreaksOn three-thirds nine f
+  pub rounded-down : (f : Version) (whole : ℕ) → whole < 1000000 → RefusesByUtilisation _/_ whole f →
+      BreaksOn one-tick-over six f

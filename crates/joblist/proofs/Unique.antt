@@ -11,7 +11,8 @@ use Rattle.joblist.specs.inside.Listed.{KeepsAlone, ListSaid}
 use Rattle.joblist.specs.declared.Listed.{Listed}
 use Rattle.joblist.specs.declared.Listed.the-variants.{WellFormed, Shape, AtFault}
 
-pub keeps-alone-unique : (tb : Table) (js : Jobs) (k : ℕ) (a b : Bool) → Says a (KeepsAlone tb js k) → Says b (KeepsAlone tb js k) → a ≡ b
+pub keeps-alone-unique : (tb : Table) (js : Jobs) (k : ℕ) (a b : Bool) → Says a (KeepsAlone tb js k) →
+    Says b (KeepsAlone tb js k) → a ≡ b
 keeps-alone-unique tb js k true true x y = refl
 keeps-alone-unique tb js k true false x y = absurd (y x)
 keeps-alone-unique tb js k false true x y = absurd (x y)

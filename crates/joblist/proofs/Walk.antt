@@ -1,4 +1,5 @@
--- The walk along a job list: the last release, and each row's last release with its spacing, show a fault against any earlier job.
+-- The walk along a job list: the last release, and each row's last release with its spacing, show a fault against any
+-- earlier job.
 use Prim.Native.Nat.{ℕ, _+_, _≤_, _<_}
 use mathlib.Core.Path.{_≡_, refl, sym, ap}
 use mathlib.Core.Logic.{_⊎_, inl, inr, ⊎-elim}
@@ -18,8 +19,8 @@ use Rattle.joblist.specs.inside.Listed.{KeepsAlone}
 abbrev pub AtFault : Table → Jobs → ℕ → Type 0
 AtFault tb js k = BreaksAlone tb js k ⊎ ((l : ℕ) × (l < k) × BreaksAgainst tb js l k)
 
--- the walk stands before job k, and no job before it is at fault: `last` is the last release, 0 where there is none; `earliest` at a row
--- is the release of its last job and the row's spacing, 0 where there is none
+-- the walk stands before job k, and no job before it is at fault: `last` is the last release, 0 where there is none;
+-- `earliest` at a row is the release of its last job and the row's spacing, 0 where there is none
 pub record Walked (tb : Table) (js : Jobs) (k last : ℕ) (earliest : List ℕ) : Type 0 where
   pub places : length earliest ≡ most-rows
   pub fine : (l : ℕ) → l < k → AtFault tb js l → ⊥
@@ -64,7 +65,8 @@ module _ {tb : Table} {js : Jobs} {k last : ℕ} {earliest : List ℕ} (w : Walk
       (w .of-row (js .row k))
 
   -- job k keeps the rules by itself, and its release is no lower than either
-  module _ (alone : KeepsAlone tb js k) (order : last ≤ js .release k) (apart : getD earliest (js .row k) 0 ≤ js .release k) where
+  module _ (alone : KeepsAlone tb js k) (order : last ≤ js .release k)
+      (apart : getD earliest (js .row k) 0 ≤ js .release k) where
     keeps : AtFault tb js k → ⊥
     keeps f =
         ⊎-elim
@@ -92,7 +94,13 @@ module _ {tb : Table} {js : Jobs} {k last : ℕ} {earliest : List ℕ} (w : Walk
               λ l h. by-eq l k
               (λ e. rw e (rw same (omega arith)))
               (λ e. by-eq (js .row l) (js .row k)
-              (λ q. rw q (rw same (omega (arith, w .spaced l (omega arith), ap (λ i. getD earliest i 0) q, ap (tb .T) q))))
+              (λ q. rw q (rw same (omega (
+                arith,
+                w .spaced l (omega arith),
+                ap (λ i. getD earliest i 0) q,
+                ap (tb .T)
+                    q,
+              ))))
               (λ q. rw (other (js .row l) q) (w .spaced l (omega arith))));
           of-row =
               λ i. by-eq i (js .row k)

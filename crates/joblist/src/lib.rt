@@ -9,7 +9,8 @@ ghost use Rattle.joblist.specs.inside.Listed.{KeepsAlone, ListSaid};
 use tables::JOB_WIDTH;
 use tables::ROW_WIDTH;
 
-// What the check says of a job list: well formed, with the number of its jobs; of no shape; or with a first job at fault.
+// What the check says of a job list: well formed, with the number of its jobs; of no shape; or with a first job at
+// fault.
 pub enum Listed {
     WellFormed(u32),
     Shape,

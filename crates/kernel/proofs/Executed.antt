@@ -97,7 +97,8 @@ Fresh tb p js = (k : ℕ) → k < js .N → locked tb p (js .row k) 0 ≡ false
 
 pub fresh : (tb : Table) (p : Plan) (js : Jobs) → WellFormed tb p → Lawful tb js → Fresh tb p js
 fresh tb p js wf lawful k l =
-    by-bool (locked tb p (js .row k) 0) (λ e. absurd (omega (arith, ltb-true, wf .len-high (js .row k) (lawful .row k l)))) (λ e. e)
+    by-bool (locked tb p (js .row k) 0) (λ e. absurd
+    (omega (arith, ltb-true, wf .len-high (js .row k) (lawful .row k l)))) (λ e. e)
 
 module _ (tb : Table) (p : Plan) (js : Jobs) (new : Fresh tb p js) where
   pub locked-executed : (k e : ℕ) → k < js .N → locked tb p (js .row k) e ≡ true → 0 < e
@@ -129,7 +130,8 @@ module _ (tb : Table) (p : Plan) (js : Jobs) (new : Fresh tb p js) where
 
   -- one job at most is locked and unfinished: what is so after a tick ran in it
   abbrev Once : ℕ → Type 0
-  Once t = (k l : ℕ) → k < js .N → l < js .N → R.RunsOn tb p js (E tb p js t) k → R.RunsOn tb p js (E tb p js t) l → k ≡ l
+  Once t = (k l : ℕ) → k < js .N → l < js .N → R.RunsOn tb p js (E tb p js t) k → R.RunsOn tb p js (E tb p js t) l →
+      k ≡ l
 
   ran-on : (t k : ℕ) → Once t → k < js .N → R.RunsOn tb p js (E tb p js (suc t)) k → runs tb p js t ≡ job k
   ran-on t k once g a =

@@ -1,4 +1,5 @@
--- Laws of finish ticks: there is one at most, and every job of a list has one, since no tick is idle while a job is pending.
+-- Laws of finish ticks: there is one at most, and every job of a list has one, since no tick is idle while a job is
+-- pending.
 use Prim.Native.Nat.{ℕ, zero, suc, _+_, _-_, _*_, _≤_, _<_}
 use mathlib.Core.Path.{_≡_, refl, ap, _∙_}
 use mathlib.Core.Bool.{Bool}
@@ -34,7 +35,12 @@ module _ (tb : Table) (p : Plan) (js : Jobs) where
 
   pub finish-unique : (k f g : ℕ) → Finishes tb p js k f → Finishes tb p js k g → f ≡ g
   finish-unique k f g a b =
-      omega (arith, finish-least k f g a (omega (arith, b .finished)), finish-least k g f b (omega (arith, a .finished)))
+      omega (
+        arith,
+        finish-least k f g a (omega (arith, b .finished)),
+        finish-least k g f b
+            (omega (arith, a .finished)),
+      )
 
   -- a job that has executed its run has a finish tick
   pub finish-of : (k t : ℕ) → 1 ≤ js .run k → js .run k ≤ E t k → (f : ℕ) × Finishes tb p js k f × (f ≤ t)
@@ -65,7 +71,12 @@ module _ (tb : Table) (p : Plan) (js : Jobs) where
         X.executed-not tb p js t l (λ r. let z : k ≡ l = cc in e z),
         given-no (eqb k l) 1 (ne-eqb k l e),
       )))
-      ∙ omega (arith, sum-add (E t) (λ l. given (eqb k l) 1) (js .N), sum-delta 1 k (js .N) (X.runs-left tb p js t k q .0))
+      ∙ omega (
+        arith,
+        sum-add (E t) (λ l. given (eqb k l) 1) (js .N),
+        sum-delta 1 k (js .N)
+            (X.runs-left tb p js t k q .0),
+      )
 
   -- while a job is pending no tick is idle
   pub pending-runs : (t k : ℕ) → k < js .N → R.Pending tb p js (E t) t k → (l : ℕ) × (X.runs tb p js t ≡ job l)
@@ -115,7 +126,8 @@ module _ (tb : Table) (p : Plan) (js : Jobs) where
         (λ q.
         absurd (omega (
           arith,
-          sum-lt (E t) (js .run) (js .N) k (λ j _. X.executed-run tb p js t j) l (omega (arith, X.executed-run tb p js t k)),
+          sum-lt (E t) (js .run) (js .N) k (λ j _. X.executed-run tb p js t j) l
+              (omega (arith, X.executed-run tb p js t k)),
         ))))
 
 -- "It stays below 2^32: at most 1,000,000 + 4,096 × 1,000,000."

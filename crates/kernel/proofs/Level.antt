@@ -1,5 +1,6 @@
--- What the jobs of a level, of rank r or higher, and the jobs below it execute under the dispatch rule: the last tick at which the level was
--- settled, the ticks that are busy with it since, and the one job below that may still run in them.
+-- What the jobs of a level, of rank r or higher, and the jobs below it execute under the dispatch rule: the last tick
+-- at which the level was settled, the ticks that are busy with it since, and the one job below that may still run in
+-- them.
 use Prim.Native.Nat.{ℕ, zero, suc, _+_, _-_, _≤_, _<_}
 use mathlib.Core.Path.{_≡_, refl, ap, sym, _∙_, subst}
 use mathlib.Core.Bool.{Bool, true, false, _&&_}
@@ -19,7 +20,8 @@ use Rattle.kernel.proofs.Rule as R
 use Rattle.kernel.proofs.Executed as X
 
 -- what at most one number below n is counted for is counted once at most
-pub sum-once : (P : ℕ → Bool) (b n : ℕ) → ((k l : ℕ) → k < n → l < n → P k ≡ true → P l ≡ true → k ≡ l) → sum (λ k. given (P k) b) n ≤ b
+pub sum-once : (P : ℕ → Bool) (b n : ℕ) → ((k l : ℕ) → k < n → l < n → P k ≡ true → P l ≡ true → k ≡ l) →
+    sum (λ k. given (P k) b) n ≤ b
 unfolding sum
 sum-once P b zero once = omega arith
 sum-once P b (suc n) once =
@@ -36,12 +38,14 @@ sum-once P b (suc n) once =
     (λ e. omega (arith, given-no (P n) b e, sum-once P b n (λ k l g h. once k l (omega arith) (omega arith))))
 
 -- no number below n passes, or some number does
-by-any {ℓ} : {X : Type ℓ} (P : ℕ → Bool) (n : ℕ) → (((k : ℕ) → k < n → P k ≡ false) → X) → ((k : ℕ) → k < n → P k ≡ true → X) → X
+by-any {ℓ} : {X : Type ℓ} (P : ℕ → Bool) (n : ℕ) → (((k : ℕ) → k < n → P k ≡ false) → X) →
+    ((k : ℕ) → k < n → P k ≡ true → X) → X
 by-any P zero f g = f (λ k l. absurd (omega arith))
 by-any P (suc n) f g =
     by-bool (P n)
     (λ e. g n (omega arith) e)
-    (λ e. by-any P n (λ h. f (λ k l. by-eq k n (λ q. ap P q ∙ e) (λ q. h k (omega arith)))) (λ k l q. g k (omega arith) q))
+    (λ e. by-any P n (λ h. f (λ k l. by-eq k n (λ q. ap P q ∙ e) (λ q. h k (omega arith))))
+    (λ k l q. g k (omega arith) q))
 
 given-suc : (b : Bool) (x : ℕ) → given b (suc x) ≡ given b x + given b 1
 given-suc true x = omega arith
@@ -158,7 +162,12 @@ module _ (tb : Table) (p : Plan) (js : Jobs) (r : ℕ) where
     pub after : (t : ℕ) → at < t → t ≤ a → Unsettled t
 
   pub last : (a : ℕ) → Last a
-  last zero = record { at = 0; upto = omega arith; settled = λ k l h b. absurd (omega arith); after = λ t a b. absurd (omega arith) }
+  last zero = record {
+    at = 0;
+    upto = omega arith;
+    settled = λ k l h b. absurd (omega arith);
+    after = λ t a b. absurd (omega arith);
+  }
   last (suc a) =
       settled-or (suc a)
       (λ s. record { at = suc a; upto = omega arith; settled = s; after = λ t g h. absurd (omega arith) })
@@ -211,7 +220,14 @@ module _ (tb : Table) (p : Plan) (js : Jobs) (r : ℕ) where
         rw (add-suc t₀ d)
         (busy-runs t (b d (omega arith))
         (λ c _ q _.
-        omega (arith, busy-work d (λ x l. b x (omega arith)), work-step level t c q, work-step lower t c q, one-class c)))
+        omega (
+          arith,
+          busy-work d (λ x l. b x (omega arith)),
+          work-step level t c q,
+          work-step lower t c q,
+          one-class
+              c,
+        )))
 
     -- in them a job below executes only while it is locked
     record Tail (d k : ℕ) : Type 0 where
@@ -280,5 +296,6 @@ module _ (tb : Table) (p : Plan) (js : Jobs) (r : ℕ) where
               (λ e. omega (arith, given-no (lower k) (E (t₀ + d) k) e))),
           sum-add (λ k. given (lower k) (E t₀ k)) (λ k. given (on k) b) (js .N),
           sum-once on b (js .N)
-              (λ k l g h a c. X.runs-on-once tb p js new t₀ k l g h (R.runs-on-of tb p js (E t₀) k a) (R.runs-on-of tb p js (E t₀) l c)),
+              (λ k l g h a c. X.runs-on-once tb p js new t₀ k l g h (R.runs-on-of tb p js (E t₀) k a)
+              (R.runs-on-of tb p js (E t₀) l c)),
         )

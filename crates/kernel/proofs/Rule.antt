@@ -1,5 +1,5 @@
--- Laws of one tick of the dispatch rule: its cases (a), (b), (c) as statements, one of which holds of what is picked; and that the position
--- of a job in a lawful list never decides.
+-- Laws of one tick of the dispatch rule: its cases (a), (b), (c) as statements, one of which holds of what is picked;
+-- and that the position of a job in a lawful list never decides.
 use Prim.Native.Nat.{ℕ, zero, suc, _≤_, _<_}
 use mathlib.Core.Path.{_≡_, refl, ap, sym, _∙_, subst}
 use mathlib.Core.Bool.{Bool, true, false, _&&_, _||_}
@@ -79,8 +79,7 @@ module _ (tb : Table) (p : Plan) (js : Jobs) (x : ℕ → ℕ) where
       record { since = leb-true _ _ (and-left r _ e); left = ltb-true _ _ (and-right r _ e) }
 
   pub pending-to : (t k : ℕ) → Pending t k → pending tb p js x t k ≡ true
-  pending-to t k h =
-      and-both _ _ (le-leb _ _ (h .since)) (lt-ltb _ _ (h .left))
+  pending-to t k h = and-both _ _ (le-leb _ _ (h .since)) (lt-ltb _ _ (h .left))
 
   -- no unfinished job has executed more than C − length ticks: the "otherwise" of (b) and (c)
   abbrev pub Free : Type 0
@@ -93,8 +92,7 @@ module _ (tb : Table) (p : Plan) (js : Jobs) (x : ℕ → ℕ) where
     pub earliest : (l : ℕ) → l < js .N → Pending t l → js .row l ≡ js .row k → js .release k ≤ js .release l
 
   ahead-rank : (l k : ℕ) → p .rank (js .row l) < p .rank (js .row k) → ahead tb p js x l k ≡ true
-  ahead-rank l k h =
-      or-left _ _ (lt-ltb _ _ h)
+  ahead-rank l k h = or-left _ _ (lt-ltb _ _ h)
 
   ahead-release : (l k : ℕ) → js .row l ≡ js .row k → js .release l < js .release k → ahead tb p js x l k ≡ true
   ahead-release l k e h =
@@ -104,9 +102,11 @@ module _ (tb : Table) (p : Plan) (js : Jobs) (x : ℕ → ℕ) where
   leads-of t k e =
       let others : ℕ → Bool = λ l. pending tb p js x t l && ahead tb p js x l k in
       let z = eqb (count others (js .N)) 0 in
-      let none = count-zero others (js .N) (eqb-true (count others (js .N)) 0 (and-right (pending tb p js x t k) z e)) in
+      let none = count-zero others (js .N) (eqb-true (count others (js .N)) 0
+      (and-right (pending tb p js x t k) z e)) in
       let not : (l : ℕ) → l < js .N → Pending t l → ahead tb p js x l k ≡ true → ⊥ =
-      λ l h pe a. not-both (others l) (none l h) (and-both (pending tb p js x t l) (ahead tb p js x l k) (pending-to t l pe) a) in
+      λ l h pe a. not-both (others l) (none l h)
+      (and-both (pending tb p js x t l) (ahead tb p js x l k) (pending-to t l pe) a) in
       record {
         pends = pending-of t k (and-left (pending tb p js x t k) z e);
         highest = λ l h pe.
@@ -203,8 +203,10 @@ module _ (tb : Table) (p : Plan) (js : Jobs) (x : ℕ → ℕ) where
       (record {
         is = omega (arith, fk .is);
         pends = fk .pends;
-        highest = λ l h pl. by-eq l n (λ q. absurd (skip (subst (Pending t) q pl))) (λ q. fk .highest l (omega arith) pl);
-        earliest = λ l h pl. by-eq l n (λ q. absurd (skip (subst (Pending t) q pl))) (λ q. fk .earliest l (omega arith) pl);
+        highest = λ l h pl. by-eq l n (λ q. absurd (skip (subst (Pending t) q pl)))
+            (λ q. fk .highest l (omega arith) pl);
+        earliest = λ l h pl. by-eq l n (λ q. absurd (skip (subst (Pending t) q pl)))
+            (λ q. fk .earliest l (omega arith) pl);
       })))
 
   -- (c) nothing is pending
@@ -249,17 +251,15 @@ pub same-job : (tb : Table) (js : Jobs) → Sound tb → Lawful tb js → (k l :
     js .row k ≡ js .row l → js .release k ≡ js .release l → k ≡ l
 same-job tb js sound lawful k l a b e r =
     by-eq k l (λ q. q)
-    (λ q.
-    by-le k l
-    (λ h. absurd (apart k l (omega arith) b e r))
-    (λ h. absurd (apart l k h a (sym e) (sym r))))
+    (λ q. by-le k l (λ h. absurd (apart k l (omega arith) b e r)) (λ h. absurd (apart l k h a (sym e) (sym r))))
   where
     apart : (k l : ℕ) → k < l → l < js .N → js .row k ≡ js .row l → js .release k ≡ js .release l → ⊥
     apart k l h b e r =
         let t = sound .T (js .row k) (lawful .row k (omega arith)) .low in
         ⊎-elim (λ z. omega arith) (λ z. omega arith) (lawful .apart k l h b e)
 
-module _ (tb : Table) (p : Plan) (js : Jobs) (sound : Sound tb) (wf : WellFormed tb p) (lawful : Lawful tb js) (x : ℕ → ℕ) (t : ℕ) where
+module _ (tb : Table) (p : Plan) (js : Jobs) (sound : Sound tb) (wf : WellFormed tb p) (lawful : Lawful tb js)
+    (x : ℕ → ℕ) (t : ℕ) where
   -- so one job at most leads
   pub leads-once : (k l : ℕ) → k < js .N → l < js .N → Leads tb p js x t k → Leads tb p js x t l → k ≡ l
   leads-once k l a b f g =

@@ -1,5 +1,5 @@
--- The job that runs goes on running until it finishes or, where it is not locked, until a release: what a play from decision to decision
--- rests on.
+-- The job that runs goes on running until it finishes or, where it is not locked, until a release: what a play from
+-- decision to decision rests on.
 use Prim.Native.Nat.{ℕ, zero, suc, _+_, _≤_, _<_}
 use mathlib.Core.Path.{_≡_, ap, sym, _∙_, subst}
 use mathlib.Core.Bool.{true}
@@ -23,7 +23,8 @@ locked-on tb p i e d h = by-bool (locked tb p i (e + d)) (λ g. g) (λ g. absurd
 abbrev pub Calm : Jobs → ℕ → ℕ → Type 0
 Calm js t x = (k : ℕ) → k < js .N → js .release k ≤ t + x → js .release k ≤ t
 
--- Job c runs in tick t, d ticks at least are left to it, and in each of them it is locked or nothing was released since.
+-- Job c runs in tick t, d ticks at least are left to it, and in each of them it is locked or nothing was released
+-- since.
 module _ (tb : Table) (p : Plan) (js : Jobs) (sound : Sound tb) (wf : WellFormed tb p) (lawful : Lawful tb js)
     (t c d : ℕ) (is : X.runs tb p js t ≡ job c) (left : X.E tb p js t c + d ≤ js .run c)
     (calm : (x : ℕ) → x < d → (locked tb p (js .row c) (X.E tb p js t c + x) ≡ true) ⊎ Calm js t x) where
@@ -47,10 +48,14 @@ module _ (tb : Table) (p : Plan) (js : Jobs) (sound : Sound tb) (wf : WellFormed
       (record { left = omega (arith, a .mine); held = rw (a .mine) l })
 
   -- a job that led at t and has no rival released since
-  led : (x : ℕ) → x < d → After x → Calm js t x → R.Free tb p js (E t) → R.Leads tb p js (E t) t c → X.runs tb p js (t + x) ≡ job c
+  led : (x : ℕ) → x < d → After x → Calm js t x → R.Free tb p js (E t) → R.Leads tb p js (E t) t c →
+      X.runs tb p js (t + x) ≡ job c
   led x h a quiet free lead =
       let u = t + x in
-      let pc : R.Pending tb p js (E u) u c = record { since = omega (arith, lead .pends .since); left = omega (arith, a .mine) } in
+      let pc : R.Pending tb p js (E u) u c = record {
+        since = omega (arith, lead .pends .since);
+        left = omega (arith, a .mine);
+      } in
       R.rule tb p js (E u) u
       (λ k kl q r.
       q
@@ -58,7 +63,10 @@ module _ (tb : Table) (p : Plan) (js : Jobs) (sound : Sound tb) (wf : WellFormed
       (by-eq k c (λ e. e)
       (λ ne.
       let s = a .other k ne in
-      absurd (free k kl (record { left = omega (arith, r .left); held = subst (λ e. locked tb p (js .row k) e ≡ true) s (r .held) })))))
+      absurd (free k kl (record {
+        left = omega (arith, r .left);
+        held = subst (λ e. locked tb p (js .row k) e ≡ true) s (r .held);
+      })))))
       (λ k kl q _ f.
       q
       ∙ ap job

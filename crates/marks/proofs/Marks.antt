@@ -1,4 +1,5 @@
--- The laws of marks: the first mark by trailing zeros, how many there are, one less, one more, all of n. Each by induction on the digits.
+-- The laws of marks: the first mark by trailing zeros, how many there are, one less, one more, all of n. Each by
+-- induction on the digits.
 use Prim.Native.Nat.{ℕ, zero, suc, _+_, _-_, _*_, _/_, _%_, _^_, _≤_, _<_, zero-le, suc-le-suc}
 use mathlib.Core.Path.{_≡_, refl, sym, ap, _∙_, subst, fun-ext}
 use mathlib.Core.Bool.{Bool, true, false, or-false, or-true}
@@ -10,7 +11,8 @@ use lib.Count.{ones, trailingZeros, under, ones-step}
 use borrow.Author.Tests.{eqb-true, eqb-false, eq-eqb, ne-eqb, lt-ltb, le-ltb}
 use Rattle.counting.specs.Sum.{given, sum, count}
 use Rattle.counting.proofs.Cases.{by-bool, by-eq, by-le, not-both}
-use Rattle.counting.proofs.Sum.{without-same, without-other, given-no, sum-zero, sum-ext, sum-front, count-without, count-all}
+use Rattle.counting.proofs.Sum.{without-same, without-other, given-no, sum-zero, sum-ext, sum-front, count-without}
+use Rattle.counting.proofs.Sum.{count-all}
 use Rattle.marks.specs.inside.Marks.{marked, Whole, Next, Less, More}
 
 -- the lowest digit is 0 or 1
@@ -24,7 +26,8 @@ lowest-in zero s p h = absurd (let q : s < 1 = h in omega arith)
 lowest-in (suc k) s p h =
     let w = pow-suc 2 k in
     digit s
-    (λ e. subst (λ (x : ℕ). under x (trailingZeros k (s / 2)) < suc k) (sym e) (suc-le-suc (lowest-in k (s / 2) (omega arith) (omega arith))))
+    (λ e. subst (λ (x : ℕ). under x (trailingZeros k (s / 2)) < suc k) (sym e)
+    (suc-le-suc (lowest-in k (s / 2) (omega arith) (omega arith))))
     (λ e. subst (λ (x : ℕ). under x (trailingZeros k (s / 2)) < suc k) (sym e) (omega arith))
 
 lowest-marked : (k s : ℕ) → 0 < s → s < 2 ^ k → marked s (trailingZeros k s) ≡ true
@@ -33,7 +36,8 @@ lowest-marked zero s p h = absurd (let q : s < 1 = h in omega arith)
 lowest-marked (suc k) s p h =
     let w = pow-suc 2 k in
     digit s
-    (λ e. subst (λ (x : ℕ). marked s (under x (trailingZeros k (s / 2))) ≡ true) (sym e) (lowest-marked k (s / 2) (omega arith) (omega arith)))
+    (λ e. subst (λ (x : ℕ). marked s (under x (trailingZeros k (s / 2))) ≡ true) (sym e)
+    (lowest-marked k (s / 2) (omega arith) (omega arith)))
     (λ e. subst (λ (x : ℕ). marked s (under x (trailingZeros k (s / 2))) ≡ true) (sym e) (eq-eqb (s % 2) 1 e))
 
 none-lower : (k s j : ℕ) → j < trailingZeros k s → marked s j ≡ false
@@ -177,8 +181,7 @@ kept-more zero s (suc j) m ne =
     let e = unmarked-digit s m in
     ap (λ (x : ℕ). marked x j) (let q : (s + 1) / 2 ≡ s / 2 = omega arith in q)
 kept-more (suc i) s zero m ne = ap (λ (x : ℕ). eqb x 1) (digit-more i s)
-kept-more (suc i) s (suc j) m ne =
-    rw (half-more i s) (kept-more i (s / 2) j m (λ e. ne (ap suc e)))
+kept-more (suc i) s (suc j) m ne = rw (half-more i s) (kept-more i (s / 2) j m (λ e. ne (ap suc e)))
 
 pub more-by-worth : (i s : ℕ) → marked s i ≡ false → More s i (s + 2 ^ i)
 more-by-worth i s m j =
@@ -235,7 +238,8 @@ pub sum-none-marked : (f : ℕ → ℕ) (n : ℕ) → sum (λ j. given (marked 0
 sum-none-marked f n = sum-zero (λ j. given (marked 0 j) (f j)) n (λ j _. given-no (marked 0 j) (f j) (none j))
 
 -- a row less is one fewer
-pub count-less : {s i r : ℕ} (n : ℕ) → Less s i r → i < n → marked s i ≡ true → count (marked r) n + 1 ≡ count (marked s) n
+pub count-less : {s i r : ℕ} (n : ℕ) → Less s i r → i < n → marked s i ≡ true →
+    count (marked r) n + 1 ≡ count (marked s) n
 count-less {s} {i} {r} n l h m = ap (λ (P : ℕ → Bool). count P n + 1) (l .marks) ∙ count-without (marked s) i n h m
 
 -- how many rows a set has: n where it is whole, none where it is 0, and some otherwise

@@ -37,9 +37,11 @@ module _ (tb : Table) (pos : Positive tb) (f g : Filling) where
       (λ y.
       let e = same-plan x y in
       filling-same (x .said ∙ sym (y .said)) e
-      (responses-unique tb (planOf (g .plan)) (f .times) (g .times) (subst (λ p. Responses tb (planOf p) (f .times)) e (x .responses)) (y .responses)))
+      (responses-unique tb (planOf (g .plan)) (f .times) (g .times)
+      (subst (λ p. Responses tb (planOf p) (f .times)) e (x .responses)) (y .responses)))
       (λ y. absurd (chosen-not-stopped tb (planOf (f .plan)) pos (x .chosen) (y .stop))))
       (λ x. ⊎-elim
       (λ y. absurd (chosen-not-stopped tb (planOf (g .plan)) pos (y .chosen) (x .stop)))
       (λ y.
-      filling-same (x .said ∙ stopped-unique tb pos (x .stop) (y .stop) ∙ sym (y .said)) (x .plan ∙ sym (y .plan)) (x .times ∙ sym (y .times))))
+      filling-same (x .said ∙ stopped-unique tb pos (x .stop) (y .stop) ∙ sym (y .said)) (x .plan ∙ sym (y .plan))
+      (x .times ∙ sym (y .times))))

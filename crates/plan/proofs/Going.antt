@@ -1,4 +1,5 @@
--- What is known while the ranks are filled, with the rows of a set not placed: it holds at the start, goes on with each row that takes its rank, and tells how the filling ends.
+-- What is known while the ranks are filled, with the rows of a set not placed: it holds at the start, goes on with each
+-- row that takes its rank, and tells how the filling ends.
 use Prim.Native.Nat.{ℕ, suc, _+_, _-_, _*_, max, _≤_, _<_}
 use mathlib.Core.Path.{_≡_, refl, sym, ap, _∙_, subst}
 use mathlib.Core.Bool.{true, false}
@@ -62,7 +63,8 @@ module _ (tb : Table) where
               omega (
                 arith,
                 blocking-is tb (planOf (replicate 64 0)) (rank rest),
-                longest-cases tb (planOf (replicate 64 0)) (rank rest) (λ e. e) (λ j l lt _. absurd (omega (arith, zeros 64 (2 * j)))),
+                longest-cases tb (planOf (replicate 64 0)) (rank rest) (λ e. e)
+                    (λ j l lt _. absurd (omega (arith, zeros 64 (2 * j)))),
               );
           timed = λ j l e. not-both (marked rest j) e (w j ∙ lt-ltb j (tb .n) l);
           plan-past = λ k _. zeros 64 k;
@@ -112,7 +114,8 @@ module _ (tb : Table) where
                 low = some;
                 high = omega (arith, g .filled .left, count-le (unplaced (planOf plan) (rank rest)) (tb .n));
                 filled = g .filled;
-                none = none-alike tb (marked rest) (unplaced (planOf plan) (rank rest)) b (blocking tb (planOf plan) (rank rest)) pos level-alike none;
+                none = none-alike tb (marked rest) (unplaced (planOf plan) (rank rest)) b
+                    (blocking tb (planOf plan) (rank rest)) pos level-alike none;
               };
           said = e;
           plan = refl;
@@ -128,7 +131,8 @@ module _ (tb : Table) where
           chosen = chosen;
           responses =
               record {
-                each = λ j l. timed-response tb (planOf plan) j (getD times j 0) chosen l (g .timed j l (ap (λ x. marked x j) e ∙ none j));
+                each = λ j l. timed-response tb (planOf plan) j (getD times j 0) chosen l
+                    (g .timed j l (ap (λ x. marked x j) e ∙ none j));
                 past = g .times-past;
                 whole = g .whole;
               };
@@ -152,7 +156,8 @@ module _ (tb : Table) where
                 getD-set-other (set plan (2 * y) (rank rest)) (2 * y + 1) (2 * y) q 0 (λ e. omega arith)
                 ∙ getD-set-same plan (2 * y) (rank rest) 0 (omega (arith, reach))
                 ∙ sym one-less;
-            len = getD-set-same (set plan (2 * y) (rank rest)) (2 * y + 1) q 0 (omega (arith, reach, length-set plan (2 * y) (rank rest)));
+            len = getD-set-same (set plan (2 * y) (rank rest)) (2 * y + 1) q 0
+                (omega (arith, reach, length-set plan (2 * y) (rank rest)));
             others =
                 λ j _ ne. (
                   getD-set-other (set plan (2 * y) (rank rest)) (2 * y + 1) (2 * j) q 0 (λ e. omega arith)
@@ -165,7 +170,8 @@ module _ (tb : Table) where
       takes-y : TakesRank tb (planOf plan) (suc (rank left)) y q
       takes-y =
           subst (λ r. TakesRank tb (planOf plan) r y q) (sym one-less)
-          (takes-alike tb (marked rest) (unplaced (planOf plan) (rank rest)) b (blocking tb (planOf plan) (rank rest)) y q pos level-alike t)
+          (takes-alike tb (marked rest) (unplaced (planOf plan) (rank rest)) b (blocking tb (planOf plan) (rank rest)) y
+          q pos level-alike t)
 
       none-there : (j : ℕ) → j < tb .n → ¬ (planOf plan .rank j ≡ suc (rank left))
       none-there j l e =
@@ -176,7 +182,8 @@ module _ (tb : Table) where
       -- the rows placed before stand above rank left + 1, where both plans agree
       agree : (s : ℕ) → suc (rank left) ≤ s → Agree tb (planOf plan) (planOf (put plan (rank rest) y q)) s
       agree =
-          placed-agree tb pos (planOf plan) (planOf (put plan (rank rest) y q)) (rank left) y q (subst (Filled tb (planOf plan)) (sym one-less) (g .filled))
+          placed-agree tb pos (planOf plan) (planOf (put plan (rank rest) y q)) (rank left) y q
+          (subst (Filled tb (planOf plan)) (sym one-less) (g .filled))
           none-there takes-y placed-y
 
       timed-y : Timed tb (planOf (put plan (rank rest) y q)) y R
@@ -184,17 +191,20 @@ module _ (tb : Table) where
           let p = planOf plan in
           let p′ = planOf (put plan (rank rest) y q) in
           let s = suc (rank left) in
-          timed-at tb (unplaced p s) (blocking tb p s) p′ y s q R (agree-alike tb p p′ s (agree s (omega arith))) (placed-y .rank) (placed-y .len)
+          timed-at tb (unplaced p s) (blocking tb p s) p′ y s q R (agree-alike tb p p′ s (agree s (omega arith)))
+          (placed-y .rank) (placed-y .len)
           (subst (λ v. Response tb (without (unplaced p v) y) (blocking tb p v) y q R) (sym one-less)
           (response-alike tb (marked rest) (unplaced p (rank rest)) b (blocking tb p (rank rest)) y q R level-alike x))
 
-      timed-other : (j T : ℕ) → j < tb .n → ¬ (j ≡ y) → marked rest j ≡ false → Timed tb (planOf plan) j T → Timed tb (planOf (put plan (rank rest) y q)) j T
+      timed-other : (j T : ℕ) → j < tb .n → ¬ (j ≡ y) → marked rest j ≡ false → Timed tb (planOf plan) j T →
+          Timed tb (planOf (put plan (rank rest) y q)) j T
       timed-other j T l ne m r =
           let p = planOf plan in
           let p′ = planOf (put plan (rank rest) y q) in
           let s = p .rank j in
           let o = placed-y .others j l ne in
-          timed-at tb (unplaced p s) (blocking tb p s) p′ j s (p .len j) T (agree-alike tb p p′ s (agree s (omega (arith, g .placed j l m, one-less)))) (o .0) (o .1) r
+          timed-at tb (unplaced p s) (blocking tb p s) p′ j s (p .len j) T
+          (agree-alike tb p p′ s (agree s (omega (arith, g .placed j l m, one-less)))) (o .0) (o .1) r
 
       pub going-more : Going (put plan (rank rest) y q) (set times y R) left (max b (q - 1))
       going-more =
@@ -202,7 +212,8 @@ module _ (tb : Table) where
           let p′ = planOf (put plan (rank rest) y q) in
           let f = subst (Filled tb p) (sym one-less) (g .filled) in
           record {
-            long = length-set (set plan (2 * y) (rank rest)) (2 * y + 1) q ∙ length-set plan (2 * y) (rank rest) ∙ g .long;
+            long = length-set (set plan (2 * y) (rank rest)) (2 * y + 1) q ∙ length-set plan (2 * y) (rank rest)
+                ∙ g .long;
             whole = length-set times y R ∙ g .whole;
             inside = λ j e. still j e (λ _ m. g .inside j m);
             free = λ j e. still j e (λ ne m. placed-y .others j (g .inside j m) ne .0 ∙ g .free j m);

@@ -1,4 +1,5 @@
--- Laws of a placed row's time: the response at its rank, which the ranks filled later leave as it is, and which is that of the chosen plan.
+-- Laws of a placed row's time: the response at its rank, which the ranks filled later leave as it is, and which is that
+-- of the chosen plan.
 use Prim.Native.Nat.{ℕ, _<_}
 use mathlib.Core.Path.{_≡_, sym, ap, subst}
 use mathlib.Core.Bool.{Bool, _&&_, not}
@@ -19,13 +20,15 @@ abbrev pub Timed : Table → Plan → ℕ → ℕ → Type 0
 Timed tb p j R = Response tb (without (unplaced p (p .rank j)) j) (blocking tb p (p .rank j)) j (p .len j) R
 
 -- levels that are alike give a row the same response
-pub response-alike : (tb : Table) (U U′ : ℕ → Bool) (b b′ z q R : ℕ) → Alike tb U U′ b b′ → Response tb (without U z) b z q R → Response tb (without U′ z) b′ z q R
+pub response-alike : (tb : Table) (U U′ : ℕ → Bool) (b b′ z q R : ℕ) → Alike tb U U′ b b′ →
+    Response tb (without U z) b z q R → Response tb (without U′ z) b′ z q R
 response-alike tb U U′ b b′ z q R same r =
     subst (λ x. Response tb (without U′ z) x z q R) (same .blocking)
     (response-same tb (without U z) (without U′ z) b z q R (λ j g. ap (λ x. x && not (eqb j z)) (same .rows j g)) r)
 
 -- row j stands in p at rank s with the length q, and the level U is that of p
-pub timed-at : (tb : Table) (U : ℕ → Bool) (b : ℕ) (p : Plan) (j s q R : ℕ) → Alike tb U (unplaced p s) b (blocking tb p s) →
+pub timed-at : (tb : Table) (U : ℕ → Bool) (b : ℕ) (p : Plan) (j s q R : ℕ) →
+    Alike tb U (unplaced p s) b (blocking tb p s) →
     p .rank j ≡ s → p .len j ≡ q → Response tb (without U j) b j q R → Timed tb p j R
 timed-at tb U b p j s q R same e g r =
     subst (λ x. Response tb (without (unplaced p x) j) (blocking tb p x) j (p .len j) R) (sym e)

@@ -22,14 +22,16 @@ use Rattle.plan.proofs.Answers.{response-plans}
 no-plan-place : (tb : Table) → OnePlace (no-plan tb)
 no-plan-place tb a b h g = h .0 ∙ sym (g .0)
 
-module _ (tb : Table) (out : List ℕ) (pos : Positive tb) (v w : ℕ) (l m : List ℕ) (a : PlanGiven tb out v l) (b : PlanGiven tb out w m) where
+module _ (tb : Table) (out : List ℕ) (pos : Positive tb) (v w : ℕ) (l m : List ℕ) (a : PlanGiven tb out v l)
+    (b : PlanGiven tb out w m) where
   same-plan : Same tb (plannedOf l) (plannedOf m)
   same-plan = chosen-unique tb (plannedOf l) (plannedOf m) pos (a .chosen) (b .chosen)
 
   same-response : (i : ℕ) → i < tb .n → responseIn l i ≡ responseIn m i
   same-response i h =
       response-unique tb _ _ i _ (responseIn l i) (responseIn m i)
-      (response-plans tb (plannedOf l) (plannedOf m) i (responseIn l i) same-plan h (a .responses i h)) (b .responses i h)
+      (response-plans tb (plannedOf l) (plannedOf m) i (responseIn l i) same-plan h (a .responses i h))
+      (b .responses i h)
 
   -- a number of the planned rows is a rank, a length or a response
   same-front : (k : ℕ) → k < 3 * tb .n → getD l k 0 ≡ getD m k 0
@@ -49,12 +51,14 @@ module _ (tb : Table) (out : List ℕ) (pos : Positive tb) (v w : ℕ) (l m : Li
   plan-given-one = (
     a .many ∙ sym (b .many),
     ext-getD 0 l m (a .whole ∙ sym (b .whole))
-        (λ k _. by-le (3 * tb .n) k (λ h. same-rest (3 * tb .n) l m (a .rest ∙ sym (b .rest)) k h) (λ h. same-front k h)),
+        (λ k _. by-le (3 * tb .n) k (λ h. same-rest (3 * tb .n) l m (a .rest ∙ sym (b .rest)) k h)
+        (λ h. same-front k h)),
   )
 
 pub plan-unique : (xs out : List ℕ) (r s : Result) → PlanAnswer xs out r → PlanAnswer xs out s → r ≡ s
 plan-unique xs out r s x y =
     let tb = tableOf xs in
-    answered-unique (shape xs ∷ range xs ∷ room (3 * tb .n) out ∷ no-busy tb ∷ no-plan tb ∷ []) (PlanGiven tb out) out r s
+    answered-unique (shape xs ∷ range xs ∷ room (3 * tb .n) out ∷ no-busy tb ∷ no-plan tb ∷ []) (PlanGiven tb out) out r
+    s
     (shape-place xs, (range-place xs, (room-place (3 * tb .n) out, (no-busy-place tb, (no-plan-place tb, tt)))))
     (λ clear. plan-given-one tb out (sound-positive tb (sound-of-clear xs (clear .0) (clear .1 .0)))) x y

@@ -41,7 +41,8 @@ module _ (ps ts : List ℕ) where
 
   -- one row more: what a turn of the loop does
   pub planned-more : (o : List ℕ) (i : ℕ) →
-      putMid (3 * i) (3 * i + 3 - 3 * i) (planned ps ts i ++ drop (3 * i) o) (row i) ≡ planned ps ts (i + 1) ++ drop (3 * (i + 1)) o
+      putMid (3 * i) (3 * i + 3 - 3 * i) (planned ps ts i ++ drop (3 * i) o) (row i) ≡ planned ps ts (i + 1)
+      ++ drop (3 * (i + 1)) o
   planned-more o i =
       let k : 3 * i + 3 - 3 * i ≡ 3 = omega arith in
       let m : 3 * i + 3 ≡ 3 * (i + 1) = omega arith in
@@ -58,8 +59,10 @@ module _ (ps ts : List ℕ) where
       ∙ by-eq i n
       (λ e.
       let q : 3 * i + x ≡ length (planned ps ts n) + x = omega (arith, length-planned n) in
-      ap (λ k. getD (planned ps ts n ++ row n) k 0) q ∙ getD-append-add (planned ps ts n) (row n) x 0 ∙ ap (λ k. getD (row k) x 0) (sym e))
-      (λ e. List·getD-append (planned ps ts n) (row n) 0 (3 * i + x) (omega (arith, length-planned n)) ∙ planned-at n i x (omega arith) l)
+      ap (λ k. getD (planned ps ts n ++ row n) k 0) q ∙ getD-append-add (planned ps ts n) (row n) x 0
+      ∙ ap (λ k. getD (row k) x 0) (sym e))
+      (λ e. List·getD-append (planned ps ts n) (row n) 0 (3 * i + x) (omega (arith, length-planned n))
+      ∙ planned-at n i x (omega arith) l)
 
   module _ (n : ℕ) (out : List ℕ) (fits : 3 * n ≤ length out) where
     pub written-whole : length (planned ps ts n ++ drop (3 * n) out) ≡ length out
@@ -68,6 +71,8 @@ module _ (ps ts : List ℕ) where
     pub written-rest : drop (3 * n) (planned ps ts n ++ drop (3 * n) out) ≡ drop (3 * n) out
     written-rest = drop-at (planned ps ts n) (drop (3 * n) out) (3 * n) (length-planned n)
 
-    pub written-at : (i x : ℕ) → i < n → x < 3 → getD (planned ps ts n ++ drop (3 * n) out) (3 * i + x) 0 ≡ getD (row i) x 0
+    pub written-at : (i x : ℕ) → i < n → x < 3 → getD (planned ps ts n ++ drop (3 * n) out) (3 * i + x) 0
+        ≡ getD (row i) x 0
     written-at i x h l =
-        List·getD-append (planned ps ts n) (drop (3 * n) out) 0 (3 * i + x) (omega (arith, length-planned n)) ∙ planned-at n i x h l
+        List·getD-append (planned ps ts n) (drop (3 * n) out) 0 (3 * i + x) (omega (arith, length-planned n))
+        ∙ planned-at n i x h l

@@ -7,8 +7,8 @@ use search::Pick;
 use tables::PLAN_WIDTH;
 use tables::Row;
 
-// The plan, two numbers a row as `times` takes it; each row's response; and the rank at which no row had a passing length, 0 where every
-// rank was filled. Nothing of a plan that is not whole goes out.
+// The plan, two numbers a row as `times` takes it; each row's response; and the rank at which no row had a passing
+// length, 0 where every rank was filled. Nothing of a plan that is not whole goes out.
 pub struct Filling {
     pub stopped: u32,
     pub plan: [u32; 64],

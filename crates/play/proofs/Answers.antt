@@ -23,7 +23,8 @@ module _ (xs ps js out : List ℕ) where
   pub play-range : (at : ℕ) → Clear (shape xs) → range xs .hits at → PlayAnswer xs ps js out (resultOf (Range at) out)
   play-range at s h = inr (s, inl (record { number = refl; place = h; value = refl; unwritten = refl }))
 
-  pub play-rest : (r : Result) → Clear (shape xs) → Clear (range xs) → PlayRest (tableOf xs) ps js out r → PlayAnswer xs ps js out r
+  pub play-rest : (r : Result) → Clear (shape xs) → Clear (range xs) → PlayRest (tableOf xs) ps js out r →
+      PlayAnswer xs ps js out r
   play-rest r s g a = inr (s, inr (g, a))
 
 -- the checks 6, 7, 8 and 2, and the finish ticks
@@ -42,9 +43,25 @@ module _ (tb : Table) (ps js out : List ℕ) where
       module _ (rules : Clear (job-rules tb js)) where
         pub rest-room : length out < jobsOf js .N → PlayRest tb ps js out (resultOf Room out)
         rest-room h =
-            inr (form, inr (listed, inr (rules, inl (record { number = refl; place = (refl, h); value = refl; unwritten = refl }))))
+            inr (
+              form,
+              inr (
+                listed,
+                inr (rules, inl (record { number = refl; place = (refl, h); value = refl; unwritten = refl })),
+              ),
+            )
 
         pub rest-given : (many : ℕ) (after : List ℕ) → jobsOf js .N ≤ length out → many ≡ jobsOf js .N →
-            PlayGiven tb (planOf ps) (jobsOf js) out (jobsOf js .N) after → PlayRest tb ps js out (resultOf (Given many) after)
+            PlayGiven tb (planOf ps) (jobsOf js) out (jobsOf js .N) after →
+            PlayRest tb ps js out (resultOf (Given many) after)
         rest-given many after fits e g =
-            inr (form, inr (listed, inr (rules, inr (λ place h. omega (arith, h .1), record { number = refl; place = refl; given = rw e g }))))
+            inr (
+              form,
+              inr (
+                listed,
+                inr (
+                  rules,
+                  inr (λ place h. omega (arith, h .1), record { number = refl; place = refl; given = rw e g }),
+                ),
+              ),
+            )

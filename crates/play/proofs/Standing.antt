@@ -27,8 +27,9 @@ pub record Next (js : Jobs) (t next : ℕ) : Type 0 where
   pub came : (k : ℕ) → k < next → js .release k ≤ t
   pub later : (k : ℕ) → next ≤ k → k < js .N → t < js .release k
 
--- `head` gives each row's earliest unfinished job, N where there is none, and `done` the ticks that this job has executed by tick t; the
--- jobs of the row before it have finished, at the ticks that `out` gives, and those after it have not executed
+-- `head` gives each row's earliest unfinished job, N where there is none, and `done` the ticks that this job has
+-- executed by tick t; the jobs of the row before it have finished, at the ticks that `out` gives, and those after it
+-- have not executed
 pub record Standing (tb : Table) (p : Plan) (js : Jobs) (t : ℕ) (head done out : ℕ → ℕ) : Type 0 where
   pub high : (i : ℕ) → i < tb .n → head i ≤ js .N
   pub own : (i : ℕ) → i < tb .n → head i < js .N → js .row (head i) ≡ i
@@ -44,7 +45,8 @@ unplayed js head = count (λ k. leb (head (js .row k)) k) (js .N)
 
 -- the start of play
 pub stands : (tb : Table) (p : Plan) (js : Jobs) (head done out : ℕ → ℕ) → WellFormedJobs tb js →
-    ((i : ℕ) → i < tb .n → Following js i 0 (head i)) → ((i : ℕ) → i < tb .n → done i ≡ 0) → Standing tb p js 0 head done out
+    ((i : ℕ) → i < tb .n → Following js i 0 (head i)) → ((i : ℕ) → i < tb .n → done i ≡ 0) →
+    Standing tb p js 0 head done out
 stands tb p js head done out wfj first zeros =
     record {
       high = λ i h. first i h .high;
@@ -63,7 +65,8 @@ stands tb p js head done out wfj first zeros =
     none k l h = first (js .row k) (row k l) .none k (omega arith) h refl
 
 -- the releases from tick t to a later tick
-pub next-on : (tb : Table) (js : Jobs) → WellFormedJobs tb js → (t u from next : ℕ) → t ≤ u → ((k : ℕ) → k < from → js .release k ≤ t) →
+pub next-on : (tb : Table) (js : Jobs) → WellFormedJobs tb js → (t u from next : ℕ) → t ≤ u →
+    ((k : ℕ) → k < from → js .release k ≤ t) →
     Released js from u next → Next js u next
 next-on tb js wfj t u from next h came r =
     record {
@@ -143,7 +146,8 @@ module _ (tb : Table) (p : Plan) (js : Jobs) (sound : Sound tb) (wf : WellFormed
     free h k l on =
         let r = running k l on in
         let u = first (js .row k) (row k l) (omega (arith, r .0, r .1)) in
-        let z = urgency-held tb p (js .row k) (done (js .row k)) (subst (λ e. locked tb p (js .row k) e ≡ true) (st .now k l (r .0)) (on .held)) in
+        let z = urgency-held tb p (js .row k) (done (js .row k))
+        (subst (λ e. locked tb p (js .row k) e ≡ true) (st .now k l (r .0)) (on .held)) in
         omega (arith, urgency-free tb p i (done i) h, wf .rank-low i il)
 
     leads : locked tb p i (done i) ≡ false → R.Leads tb p js (E t) t c
@@ -171,7 +175,8 @@ module _ (tb : Table) (p : Plan) (js : Jobs) (sound : Sound tb) (wf : WellFormed
         (λ h. X.runs-on tb p js fresh t c cl
         (record {
           left = omega (arith, executed-head, left-head);
-          held = subst (λ r. locked tb p r (E t c) ≡ true) (sym mine) (subst (λ e. locked tb p i e ≡ true) (sym executed-head) h);
+          held = subst (λ r. locked tb p r (E t c) ≡ true) (sym mine)
+              (subst (λ e. locked tb p i e ≡ true) (sym executed-head) h);
         }))
         (λ h. R.pick-leads tb p js sound wf (wfj .lawful) (E t) t c cl (free h) (leads h))
 
@@ -202,8 +207,10 @@ module _ (tb : Table) (p : Plan) (js : Jobs) (sound : Sound tb) (wf : WellFormed
           (λ q. absurd (omega (arith, stretch .calm e (omega arith), to-come k q l)))
           (λ q. nx .came k q)))
 
-      after : (x : ℕ) → x ≤ d → S.After tb p js sound wf (wfj .lawful) t c d runs-head (omega (arith, executed-head, left-head, stretch .within)) calm x
-      after = S.steady tb p js sound wf (wfj .lawful) t c d runs-head (omega (arith, executed-head, left-head, stretch .within)) calm
+      after : (x : ℕ) → x ≤ d → S.After tb p js sound wf (wfj .lawful) t c d runs-head
+          (omega (arith, executed-head, left-head, stretch .within)) calm x
+      after = S.steady tb p js sound wf (wfj .lawful) t c d runs-head
+          (omega (arith, executed-head, left-head, stretch .within)) calm
 
       -- the job is not finished: it has executed d ticks more
       pub stands-on : (done′ : ℕ → ℕ) → done i + d < js .run c → done′ i ≡ done i + d →
@@ -296,7 +303,8 @@ module _ (tb : Table) (p : Plan) (js : Jobs) (sound : Sound tb) (wf : WellFormed
           cl
           (omega (
             arith,
-            given-no (leb (head′ (js .row c)) c) 1 (lt-leb (head′ (js .row c)) c (omega (arith, ap head′ mine, fol .low))),
+            given-no (leb (head′ (js .row c)) c) 1 (lt-leb (head′ (js .row c)) c
+                (omega (arith, ap head′ mine, fol .low))),
             given-yes (leb (head (js .row c)) c) 1 (le-leb (head (js .row c)) c (omega (arith, same))),
           ))
 
@@ -310,7 +318,10 @@ module _ (tb : Table) (p : Plan) (js : Jobs) (sound : Sound tb) (wf : WellFormed
         let s : (l : ℕ) → E u l ≡ E t l = idles m x (omega (arith, add-suc t x)) in
         let free : R.Free tb p js (E u) =
         λ l g on.
-        let r = running l g (record { left = omega (arith, s l, on .left); held = subst (λ e. locked tb p (js .row l) e ≡ true) (s l) (on .held) }) in
+        let r = running l g (record {
+          left = omega (arith, s l, on .left);
+          held = subst (λ e. locked tb p (js .row l) e ≡ true) (s l) (on .held);
+        }) in
         none (js .row l) (row l g) (omega (arith, r .0, r .1)) in
         let quiet : R.Quiet tb p js (E u) u =
         λ l g pe.

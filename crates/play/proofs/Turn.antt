@@ -1,4 +1,5 @@
--- One turn of play's loop, over the arrays that it keeps: how play stands after it, and that at most two turns a job are made.
+-- One turn of play's loop, over the arrays that it keeps: how play stands after it, and that at most two turns a job
+-- are made.
 use Prim.Native.Nat.{ℕ, _+_, _-_, _*_, _≤_, _<_}
 use mathlib.Core.Path.{_≡_, refl, ap, _∙_}
 use mathlib.Core.Logic.{_⊎_, inl, inr, ⊎-elim}
@@ -55,7 +56,8 @@ turns-most js heads next =
       count-all (js .N),
     )
 
-pub turns-fall : (js : Jobs) (next t t′ next′ : ℕ) (heads heads′ : List ℕ) → Gained js next t t′ heads heads′ → Released js next t′ next′ →
+pub turns-fall : (js : Jobs) (next t t′ next′ : ℕ) (heads heads′ : List ℕ) → Gained js next t t′ heads heads′ →
+    Released js next t′ next′ →
     turns js heads′ next′ < turns js heads next
 turns-fall js next t t′ next′ heads heads′ g r =
     ⊎-elim
@@ -75,22 +77,26 @@ pub record Running (tb : Table) (js : Jobs) (t : ℕ) (heads done : List ℕ) (i
   pub small : js .run (at heads i) ≤ most
   pub in-time : t + (js .run (at heads i) - at done i) ≤ last-release + most-jobs * most
 
--- what becomes of play by a decision for row i, n where no row waits: it is over, it goes on to the next release, the row's job has
--- executed d ticks more, or it has finished and job k is the row's following one
-pub record Decided (tb : Table) (p : Plan) (js : Jobs) (out₀ : List ℕ) (t next : ℕ) (heads done out : List ℕ) (i : ℕ) : Type 0 where
+-- what becomes of play by a decision for row i, n where no row waits: it is over, it goes on to the next release, the
+-- row's job has executed d ticks more, or it has finished and job k is the row's following one
+pub record Decided (tb : Table) (p : Plan) (js : Jobs) (out₀ : List ℕ) (t next : ℕ) (heads done out : List ℕ) (i : ℕ) :
+    Type 0 where
   pub over : tb .n ≤ i → js .N ≤ next → PlayGiven tb p js out₀ (js .N) out
   pub idles : tb .n ≤ i → next < js .N →
       Playing tb p js out₀ (js .release next) heads done out × Gained js next t (js .release next) heads heads
   pub runs : i < tb .n → Running tb js t heads done i
-  pub goes-on : i < tb .n → (d : ℕ) → Stretch js next t (js .run (at heads i) - at done i) (locked tb p i (at done i)) d →
+  pub goes-on : i < tb .n → (d : ℕ) → Stretch js next t (js .run (at heads i) - at done i) (locked tb p i (at done i))
+      d →
       at done i + d < js .run (at heads i) →
       Playing tb p js out₀ (t + d) heads (set done i (at done i + d)) out × Gained js next t (t + d) heads heads
-  pub finishes : i < tb .n → (d k : ℕ) → Stretch js next t (js .run (at heads i) - at done i) (locked tb p i (at done i)) d →
+  pub finishes : i < tb .n → (d k : ℕ) → Stretch js next t (js .run (at heads i) - at done i)
+      (locked tb p i (at done i)) d →
       js .run (at heads i) ≤ at done i + d → js .N ≤ length out → Following js i (at heads i + 1) k →
       Playing tb p js out₀ (t + d) (set heads i k) (set done i 0) (set out (at heads i) (t + d))
       × Gained js next t (t + d) heads (set heads i k)
 
-module _ (tb : Table) (p : Plan) (js : Jobs) (sound : Sound tb) (wf : WellFormed tb p) (wfj : WellFormedJobs tb js) (out₀ : List ℕ) where
+module _ (tb : Table) (p : Plan) (js : Jobs) (sound : Sound tb) (wf : WellFormed tb p) (wfj : WellFormedJobs tb js)
+    (out₀ : List ℕ) where
   pub next-turn : (next t t′ next′ : ℕ) (heads heads′ : List ℕ) → S.Next js t next → Gained js next t t′ heads heads′ →
       Released js next t′ next′ → S.Next js t′ next′
   next-turn next t t′ next′ heads heads′ nx g r = S.next-on tb js wfj t t′ next next′ (g .later) (nx .came) r
@@ -154,10 +160,12 @@ module _ (tb : Table) (p : Plan) (js : Jobs) (sound : Sound tb) (wf : WellFormed
       head-within = omega (arith, fm .waits il, nx .high)
 
       head-left : at done i < js .run c
-      head-left = S.left-head tb p js sound wf wfj t next (at heads) (at done) (at out) nx (pl .standing) i il (fm .waits il) first
+      head-left = S.left-head tb p js sound wf wfj t next (at heads) (at done) (at out) nx (pl .standing) i il
+          (fm .waits il) first
 
       head-in-time : t + (js .run c - at done i) ≤ last-release + most-jobs * most
-      head-in-time = S.in-time tb p js sound wf wfj t next (at heads) (at done) (at out) nx (pl .standing) i il (fm .waits il) first
+      head-in-time = S.in-time tb p js sound wf wfj t next (at heads) (at done) (at out) nx (pl .standing) i il
+          (fm .waits il) first
 
       head-small : js .run c ≤ most
       head-small =
@@ -174,9 +182,11 @@ module _ (tb : Table) (p : Plan) (js : Jobs) (sound : Sound tb) (wf : WellFormed
           record {
             heads-places = pl .heads-places;
             done-places = simp length-set (pl .done-places);
-            small = λ j l. by-eq j i (λ q. rw (q, same) (omega (arith, head-small))) (λ q. rw (other j q) (pl .small j l));
+            small = λ j l. by-eq j i (λ q. rw (q, same) (omega (arith, head-small)))
+                (λ q. rw (other j q) (pl .small j l));
             standing =
-                S.stands-on tb p js sound wf wfj t next (at heads) (at done) (at out) nx (pl .standing) i il (fm .waits il) first d stretch
+                S.stands-on tb p js sound wf wfj t next (at heads) (at done) (at out) nx (pl .standing) i il
+                (fm .waits il) first d stretch
                 (at (set done i (e + d))) h same other;
             whole = pl .whole;
             rest = pl .rest;
@@ -206,7 +216,8 @@ module _ (tb : Table) (p : Plan) (js : Jobs) (sound : Sound tb) (wf : WellFormed
             done-places = simp length-set (pl .done-places);
             small = λ j l. by-eq j i (λ q. rw (q, done-same) (omega arith)) (λ q. rw (done-other j q) (pl .small j l));
             standing =
-                S.stands-after tb p js sound wf wfj t next (at heads) (at done) (at out) nx (pl .standing) i il (fm .waits il) first d stretch
+                S.stands-after tb p js sound wf wfj t next (at heads) (at done) (at out) nx (pl .standing) i il
+                (fm .waits il) first d stretch
                 (at (set heads i k)) (at (set done i 0)) (at (set out c (t + d)))
                 (omega (arith, stretch .within, head-left)) follows heads-other done-same done-other
                 (getD-set-same out c (t + d) 0 (omega (arith, head-within)))
@@ -217,7 +228,8 @@ module _ (tb : Table) (p : Plan) (js : Jobs) (sound : Sound tb) (wf : WellFormed
           record {
             later = omega arith;
             gain =
-                inl (S.fewer tb p js sound wf wfj t next (at heads) (at done) (at out) nx (pl .standing) i il (fm .waits il) first d stretch
+                inl (S.fewer tb p js sound wf wfj t next (at heads) (at done) (at out) nx (pl .standing) i il
+                (fm .waits il) first d stretch
                 (at (set heads i k)) follows heads-other);
           },
         )

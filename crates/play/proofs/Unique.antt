@@ -10,7 +10,8 @@ use Rattle.tables.specs.Plan.{Plan, planOf}
 use Rattle.tables.specs.Jobs.{Jobs, jobsOf}
 use Rattle.tables.specs.Refusal.{Result}
 use Rattle.tables.specs.Checks.{shape, range, plan-form, jobs-shape, job-rules, room}
-use Rattle.tables.proofs.Answered.{OneGiven, answered-unique, same-rest, shape-place, range-place, plan-form-place, jobs-shape-place, job-rules-place, room-place}
+use Rattle.tables.proofs.Answered.{OneGiven, answered-unique, same-rest, shape-place, range-place, plan-form-place}
+use Rattle.tables.proofs.Answered.{jobs-shape-place, job-rules-place, room-place}
 use Rattle.kernel.specs.Answers.{PlayGiven, PlayAnswer}
 use Rattle.kernel.proofs.Finishing.{finish-unique}
 
@@ -31,8 +32,16 @@ play-unique xs ps js out r s a b =
     (PlayGiven tb (planOf ps) (jobsOf js) out)
     out
     r
-    s
-    (shape-place xs, (range-place xs, (plan-form-place tb ps, (jobs-shape-place js, (job-rules-place tb js, (room-place (jobsOf js .N) out, tt))))))
+    s (
+      shape-place xs,
+      (
+        range-place xs,
+        (
+          plan-form-place tb ps,
+          (jobs-shape-place js, (job-rules-place tb js, (room-place (jobsOf js .N) out, tt))),
+        ),
+      ),
+    )
     (λ _. finishes-unique tb (planOf ps) (jobsOf js) out)
     a
     b

@@ -22,8 +22,10 @@ finishes-within xs ps js out r answer zero k l =
     let p = planOf ps in
     let J = jobsOf js in
     let g =
-    granted (shape xs ∷ range xs ∷ plan-form tb ps ∷ jobs-shape js ∷ job-rules tb js ∷ room (J .N) out ∷ []) (PlayGiven tb p J out) out r refl zero
+    granted (shape xs ∷ range xs ∷ plan-form tb ps ∷ jobs-shape js ∷ job-rules tb js ∷ room (J .N) out ∷ [])
+    (PlayGiven tb p J out) out r refl zero
     answer in
     let c = g .0 in
-    let f = finish-exists tb p J (sound-of-clear xs (c .0) (c .1 .0)) (jobs-of-clear tb js (c .1 .1 .1 .0) (c .1 .1 .1 .1 .0)) k l in
+    let f = finish-exists tb p J (sound-of-clear xs (c .0) (c .1 .0))
+    (jobs-of-clear tb js (c .1 .1 .1 .0) (c .1 .1 .1 .1 .0)) k l in
     omega (arith, finish-unique tb p J k (getD (r .out) k 0) (f .0) (g .1 .given .finishes k l) (f .1), f .2)

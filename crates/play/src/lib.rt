@@ -16,12 +16,14 @@ use tables::PlanCheck;
 use tables::ROW_WIDTH;
 use tables::TableCheck;
 
-// The finish tick of each job, at its place of the output. Of each row its earliest unfinished job is kept, in `heads`, and the ticks that
-// this job has executed, in `done`; the jobs before job `next` are released at tick t. Each turn of the loop is one decision, or goes on to
-// the next release.
+// The finish tick of each job, at its place of the output. Of each row its earliest unfinished job is kept, in `heads`,
+// and the ticks that this job has executed, in `done`; the jobs before job `next` are released at tick t. Each turn of
+// the loop is one decision, or goes on to the next release.
 fn finish_all(table: &[u32], plan: &[u32], jobs: &[u32], out: &mut [u32])
-    requires { ⌜ Ruled (now table) (now plan) × WellFormedJobs (tableOf (now table)) (jobsOf (now jobs)) × (jobsOf (now jobs) .N ≤ length (now out)) ⌝ }
-    ensures { λ _. ⌜ PlayGiven (tableOf (now (table .entry))) (planOf (now (plan .entry))) (jobsOf (now (jobs .entry))) (now (out .entry)) (jobsOf (now (jobs .entry)) .N) (now (out .exit)) ⌝ }
+    requires { ⌜ Ruled (now table) (now plan) × WellFormedJobs (tableOf (now table)) (jobsOf (now jobs))
+        × (jobsOf (now jobs) .N ≤ length (now out)) ⌝ }
+    ensures { λ _. ⌜ PlayGiven (tableOf (now (table .entry))) (planOf (now (plan .entry))) (jobsOf (now (jobs .entry)))
+        (now (out .entry)) (jobsOf (now (jobs .entry)) .N) (now (out .exit)) ⌝ }
 {
     let n = table.len() / ROW_WIDTH;
     let many = jobs.len() / JOB_WIDTH;
@@ -58,7 +60,8 @@ fn finish_all(table: &[u32], plan: &[u32], jobs: &[u32], out: &mut [u32])
 // The checks of the plan, the job list and the output, in their order, then the finish ticks.
 fn play_sound(table: &[u32], n: usize, plan: &[u32], jobs: &[u32], out: &mut [u32]) -> Answer
     requires { ⌜ Sound (tableOf (now table)) × (length (now table) ≡ row-width * n) ⌝ }
-    ensures { λ r. ⌜ PlayRest (tableOf (now (table .entry))) (now (plan .entry)) (now (jobs .entry)) (now (out .entry)) (resultOf r (now (out .exit))) ⌝ }
+    ensures { λ r. ⌜ PlayRest (tableOf (now (table .entry))) (now (plan .entry)) (now (jobs .entry)) (now (out .entry))
+        (resultOf r (now (out .exit))) ⌝ }
 {
     let form = tables::check_plan(tables::rows_of(table, n), n, plan);
     if let PlanCheck::AtFault(at) = form {
@@ -80,7 +83,8 @@ fn play_sound(table: &[u32], n: usize, plan: &[u32], jobs: &[u32], out: &mut [u3
 
 // A task table, a plan and a job list to finish ticks, one number a job.
 pub fn play(table: &[u32], plan: &[u32], jobs: &[u32], out: &mut [u32]) -> Answer
-    ensures { λ r. ⌜ PlayAnswer (now (table .entry)) (now (plan .entry)) (now (jobs .entry)) (now (out .entry)) (resultOf r (now (out .exit))) ⌝ }
+    ensures { λ r. ⌜ PlayAnswer (now (table .entry)) (now (plan .entry)) (now (jobs .entry)) (now (out .entry))
+        (resultOf r (now (out .exit))) ⌝ }
 {
     let checked = tables::check_table(table);
     match checked {

@@ -1,4 +1,5 @@
--- Laws of the answers of `print` and `fit`: the one tells the other, and any two answers that a promise allows are equal.
+-- Laws of the answers of `print` and `fit`: the one tells the other, and any two answers that a promise allows are
+-- equal.
 use Prim.Native.Nat.{ℕ, _≤_}
 use mathlib.Core.Path.{_≡_, refl, sym, ap, _∙_}
 use mathlib.Core.Logic.{inl, inr, ⊎-elim}
@@ -21,7 +22,8 @@ leaving out r = record { number = r .number; place = r .place; value = r .value;
 module _ (planned out : List ℕ) where
   -- what fit says is given
   pub fit-given : {len : ℕ} {r : Result} → FitAnswer planned len r → r .number ≡ 0 →
-      Clear (planned-shape planned) × (length (planText planned) ≤ len) × (r .place ≡ 0) × (r .value ≡ length (planText planned))
+      Clear (planned-shape planned) × (length (planText planned) ≤ len) × (r .place ≡ 0)
+      × (r .value ≡ length (planText planned))
   fit-given {len} {r} a z =
       ⊎-elim
       (λ x. absurd (let e = x .number in omega arith))
@@ -37,7 +39,8 @@ module _ (planned out : List ℕ) where
       a
 
   -- what fit refuses is refused by print, and nothing is written
-  pub print-refused : {r : Result} → FitAnswer planned (length out) r → (r .number ≡ 0 → ⊥) → PrintAnswer planned out (leaving out r)
+  pub print-refused : {r : Result} → FitAnswer planned (length out) r → (r .number ≡ 0 → ⊥) →
+      PrintAnswer planned out (leaving out r)
   print-refused {r} a n =
       ⊎-elim
       (λ x. inl (record { number = x .number; place = x .place; value = x .value; unwritten = refl }))
@@ -54,7 +57,17 @@ module _ (planned out : List ℕ) where
       (λ x. inl (record { number = x .number; place = x .place; value = x .value; unwritten = refl }))
       (λ x. ⊎-elim
       (λ y. inr (x .0, inl (record { number = y .number; place = y .place; value = y .value; unwritten = refl })))
-      (λ y. inr (x .0, inr (y .0, record { number = y .1 .number; place = y .1 .place; given = record { many = y .1 .given .many; unlent = refl } })))
+      (λ y. inr (
+        x .0,
+        inr (
+          y .0,
+          record {
+            number = y .1 .number;
+            place = y .1 .place;
+            given = record { many = y .1 .given .many; unlent = refl };
+          },
+        ),
+      ))
       (x .1))
       a
 
@@ -86,7 +99,8 @@ module _ (planned out : List ℕ) where
       }
 
   -- and it is no longer than the buffer
-  pub front-within : {r : Result} → PrintAnswer planned out r → length (r .out) ≡ length out → r .value ≤ length (r .out)
+  pub front-within : {r : Result} → PrintAnswer planned out r → length (r .out) ≡ length out →
+      r .value ≤ length (r .out)
   front-within {r} a e =
       ⊎-elim
       (λ x. let v = x .value in omega arith)
@@ -121,7 +135,8 @@ print-unique planned out r s =
     (shape-place planned, (room-place (length (planText planned)) out, tt))
     (λ clear v w l m g h. (g .many ∙ sym (h .many), g .whole ∙ sym (h .whole)))
 
-pub front-unique : (planned : List ℕ) (len : ℕ) (a b : List ℕ) → PrintFront planned len a → PrintFront planned len b → a ≡ b
+pub front-unique : (planned : List ℕ) (len : ℕ) (a b : List ℕ) → PrintFront planned len a → PrintFront planned len b →
+    a ≡ b
 front-unique planned len a b p q =
     let e = ap (λ (r : Result). r .number) (fit-unique planned len (p .answer) (q .answer) (p .fit) (q .fit)) in
     by-eq (p .answer .number) 0
@@ -129,5 +144,6 @@ front-unique planned len a b p q =
     (λ n. p .refused n ∙ sym (q .refused (λ z. n (e ∙ z))))
 
 -- a printed plan is never empty: an empty front is a refusal
-pub front-empty : (planned : List ℕ) (len : ℕ) (a : List ℕ) (p : PrintFront planned len a) → a ≡ [] → p .answer .number ≡ 0 → ⊥
+pub front-empty : (planned : List ℕ) (len : ℕ) (a : List ℕ) (p : PrintFront planned len a) → a ≡ [] →
+    p .answer .number ≡ 0 → ⊥
 front-empty planned len a p e z = let l = ap length (sym (p .given z) ∙ e) in omega (arith, never-empty planned)

@@ -16,7 +16,8 @@ use Rattle.printing.specs.Printed.{planLine, rowLine, rowLines, planText
 use Rattle.printing.proofs.Printed.{lineOf, text-whole}
 
 -- a word, a number and a byte that is no digit
-field : (w : List ℕ) (end v u : ℕ) (x y : List ℕ) → end < nought → w ++ (decimal v ++ (end ∷ x)) ≡ w ++ (decimal u ++ (end ∷ y)) → (v ≡ u) × (x ≡ y)
+field : (w : List ℕ) (end v u : ℕ) (x y : List ℕ) → end < nought →
+    w ++ (decimal v ++ (end ∷ x)) ≡ w ++ (decimal u ++ (end ∷ y)) → (v ≡ u) × (x ≡ y)
 field w end v u x y h e =
     let f = cancel w e in
     let q = decimal-tells end h v u x y f in
@@ -29,7 +30,8 @@ from-response s x = word "response " ++ (decimal s ++ (10 ∷ x))
 abbrev from-length : ℕ → ℕ → List ℕ → List ℕ
 from-length l s x = word "length " ++ (decimal l ++ (32 ∷ from-response s x))
 
-row-parts : (i r l s : ℕ) (x : List ℕ) → rowLine i r l s ++ x ≡ (word "row " ++ decimal i) ++ (word " rank " ++ (decimal r ++ (32 ∷ from-length l s x)))
+row-parts : (i r l s : ℕ) (x : List ℕ) → rowLine i r l s ++ x ≡ (word "row " ++ decimal i)
+    ++ (word " rank " ++ (decimal r ++ (32 ∷ from-length l s x)))
 unfolding rowLine
 row-parts i r l s x =
     append-assoc (row ++ rank ++ length′ ++ response) (word "\n") x
@@ -54,7 +56,8 @@ row-parts i r l s x =
     response : List ℕ
     response = word " response " ++ decimal s
 
-row-tells : (i r l s r′ l′ s′ : ℕ) (x y : List ℕ) → rowLine i r l s ++ x ≡ rowLine i r′ l′ s′ ++ y → (r ≡ r′) × (l ≡ l′) × (s ≡ s′) × (x ≡ y)
+row-tells : (i r l s r′ l′ s′ : ℕ) (x y : List ℕ) → rowLine i r l s ++ x ≡ rowLine i r′ l′ s′ ++ y →
+    (r ≡ r′) × (l ≡ l′) × (s ≡ s′) × (x ≡ y)
 row-tells i r l s r′ l′ s′ x y e =
     let a = cancel (word "row " ++ decimal i) (sym (row-parts i r l s x) ∙ e ∙ row-parts i r′ l′ s′ y) in
     let b = field (word " rank ") 32 r r′ (from-length l s x) (from-length l′ s′ y) (omega arith) a in
@@ -76,7 +79,9 @@ module _ (p q : List ℕ) where
       let r =
       rows-tell n (lineOf p n ++ x) (lineOf q n ++ y)
       (sym (append-assoc (rowLines p n) (lineOf p n) x) ∙ e ∙ append-assoc (rowLines q n) (lineOf q n) y) in
-      let l = row-tells n (getD p (planned-width * n) 0) (getD p (planned-width * n + 1) 0) (getD p (planned-width * n + 2) 0) (getD q (planned-width * n) 0) (getD q (planned-width * n + 1) 0) (getD q (planned-width * n + 2) 0) x y (r .1) in (
+      let l = row-tells n (getD p (planned-width * n) 0) (getD p (planned-width * n + 1) 0)
+      (getD p (planned-width * n + 2) 0) (getD q (planned-width * n) 0) (getD q (planned-width * n + 1) 0)
+      (getD q (planned-width * n + 2) 0) x y (r .1) in (
         (λ i h. by-eq i n (λ z. rw z (l .0, l .1, l .2)) (λ z. r .0 i (omega arith))),
         l .3,
       )
@@ -86,7 +91,8 @@ module _ (p q : List ℕ) where
   unfolding planLine
   text-determines a b e =
       let f = sym (text-whole p (a .n) (a .whole)) ∙ e ∙ text-whole q (b .n) (b .whole) in
-      let head = field (word "plan ") 10 (a .n) (b .n) (rowLines p (a .n)) (rowLines q (b .n)) (omega arith) (simp append-assoc at f) in
+      let head = field (word "plan ") 10 (a .n) (b .n) (rowLines p (a .n)) (rowLines q (b .n)) (omega arith)
+      (simp append-assoc at f) in
       let same = rows-tell (a .n) [] [] (ap (λ (l : List ℕ). l ++ []) (head .1 ∙ ap (rowLines q) (sym (head .0)))) .0 in
       ext-getD 0 p q (a .whole ∙ ap (λ (n : ℕ). planned-width * n) (head .0) ∙ sym (b .whole))
       (λ k h.

@@ -40,14 +40,23 @@ module _ (planned : List ℕ) (small : (i : ℕ) → getD planned i 0 < 2 ^ 32) 
   pub text-most : Rows planned-width planned → length (planText planned) ≤ longest-text
   text-most r =
       let f = r .few in
-      omega (arith, length-text planned (r .n) (r .whole), length-planLine (r .n), few 1 (r .n) (omega arith), rows-most (r .n) (r .few))
+      omega (
+        arith,
+        length-text planned (r .n) (r .whole),
+        length-planLine (r .n),
+        few 1 (r .n) (omega arith),
+        rows-most
+            (r .n) (r .few),
+      )
 
   -- "a printed plan is never empty", and its number of bytes has this limit
-  pub fit-most : {len : ℕ} {r : Result} → FitAnswer planned len r → r .number ≡ 0 → (1 ≤ r .value) × (r .value ≤ longest-text)
+  pub fit-most : {len : ℕ} {r : Result} → FitAnswer planned len r → r .number ≡ 0 →
+      (1 ≤ r .value) × (r .value ≤ longest-text)
   fit-most a z =
       let g = fit-given planned [] a z in
       let v = g .3 in
       let m = text-most (rows-of-shape planned (g .0)) in (omega (arith, never-empty planned), omega arith)
 
-  pub print-most : {out : List ℕ} {r : Result} → PrintAnswer planned out r → r .number ≡ 0 → (1 ≤ r .value) × (r .value ≤ longest-text)
+  pub print-most : {out : List ℕ} {r : Result} → PrintAnswer planned out r → r .number ≡ 0 →
+      (1 ≤ r .value) × (r .value ≤ longest-text)
   print-most {out} a z = fit-most (fit-of-print planned out a) z

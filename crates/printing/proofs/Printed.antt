@@ -14,7 +14,8 @@ pub length-planLine : (n : ℕ) → length (planLine n) ≡ length (decimal n) +
 unfolding planLine
 length-planLine n = simp length-append (omega arith)
 
-pub length-rowLine : (i r l s : ℕ) → length (rowLine i r l s) ≡ length (decimal i) + length (decimal r) + length (decimal l) + length (decimal s) + 29
+pub length-rowLine : (i r l s : ℕ) → length (rowLine i r l s) ≡ length (decimal i) + length (decimal r)
+    + length (decimal l) + length (decimal s) + 29
 unfolding rowLine
 length-rowLine i r l s = simp length-append (omega arith)
 
@@ -26,7 +27,8 @@ module _ (planned : List ℕ) where
   -- the line of row i
   abbrev pub lineOf : ℕ → List ℕ
   lineOf i =
-      rowLine i (getD planned (planned-width * i) 0) (getD planned (planned-width * i + 1) 0) (getD planned (planned-width * i + 2) 0)
+      rowLine i (getD planned (planned-width * i) 0) (getD planned (planned-width * i + 1) 0)
+      (getD planned (planned-width * i + 2) 0)
 
   pub rows-none : rowLines planned 0 ≡ []
   unfolding rowLines
@@ -50,7 +52,8 @@ module _ (planned : List ℕ) where
   unfolding planText
   text-whole n e = let q : length planned / planned-width ≡ n = omega arith in rw q
 
-  pub length-text : (n : ℕ) → length planned ≡ planned-width * n → length (planText planned) ≡ length (planLine n) + length (rowLines planned n)
+  pub length-text : (n : ℕ) → length planned ≡ planned-width * n →
+      length (planText planned) ≡ length (planLine n) + length (rowLines planned n)
   length-text n e = ap length (text-whole n e) ∙ length-append (planLine n) (rowLines planned n)
 
   -- "a printed plan is never empty"

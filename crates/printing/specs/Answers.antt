@@ -18,7 +18,8 @@ pub record FitGiven (planned : List ℕ) (value : ℕ) (after : List ℕ) : Type
 
 -- fit: the checks 1 and 2 in this order, for a buffer of that length; then the number of bytes of the text
 abbrev pub FitAnswer : List ℕ → ℕ → Result → Type 0
-FitAnswer planned len r = Answered (planned-shape planned ∷ room-in (length (planText planned)) len ∷ []) (FitGiven planned) [] r
+FitAnswer planned len r = Answered (planned-shape planned ∷ room-in (length (planText planned)) len ∷ [])
+    (FitGiven planned) [] r
 
 -- the text stands at the front of the output, its bytes are counted, and behind it is "the remainder unchanged"
 pub record PrintGiven (planned out : List ℕ) (value : ℕ) (after : List ℕ) : Type 0 where
@@ -27,7 +28,8 @@ pub record PrintGiven (planned out : List ℕ) (value : ℕ) (after : List ℕ) 
 
 -- print: the checks 1 and 2 in this order, for the output itself; then the text
 abbrev pub PrintAnswer : List ℕ → List ℕ → Result → Type 0
-PrintAnswer planned out r = Answered (planned-shape planned ∷ room (length (planText planned)) out ∷ []) (PrintGiven planned out) out r
+PrintAnswer planned out r = Answered (planned-shape planned ∷ room (length (planText planned)) out ∷ [])
+    (PrintGiven planned out) out r
 
 -- "hands back the written front": what print hands back is the text where fit gives its answer for this planned
 -- table and a buffer of this length, and empty where fit refuses, by the number and at the place that fit answers

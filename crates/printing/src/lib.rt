@@ -85,7 +85,8 @@ fn put_row(buf: &mut [u8], at: usize, i: u32, rank: u32, len: u32, response: u32
 
 // The whole text of a planned table of n rows; the place behind it.
 fn put_plan(buf: &mut [u8], planned: &[u32], n: usize) -> usize
-    requires { ⌜ (n ≤ most-rows) × (length (now planned) ≡ planned-width * n) × (length (planText (now planned)) ≤ length (now buf)) ⌝ }
+    requires { ⌜ (n ≤ most-rows) × (length (now planned) ≡ planned-width * n)
+        × (length (planText (now planned)) ≤ length (now buf)) ⌝ }
     ensures { λ r. ⌜ Put (now (buf .entry)) 0 (planText (now (planned .entry))) (now (buf .exit)) r ⌝ }
 {
     let mut behind = put_head(buf, n as u32);
@@ -119,7 +120,8 @@ pub fn print_into(planned: &[u32], buf: &mut [u8]) -> Answer
 
 // The written front of the lent buffer itself, empty on a refusal, whose value is 0.
 pub fn print<'a>(planned: &[u32], buf: &'a mut [u8]) -> &'a mut [u8]
-    ensures { λ r. ⌜ PrintFront (now (planned .entry)) (length (now (buf .entry))) (now r) × (r .ptr ≡ buf .entry .ptr) ⌝ }
+    ensures { λ r. ⌜ PrintFront (now (planned .entry)) (length (now (buf .entry))) (now r)
+        × (r .ptr ≡ buf .entry .ptr) ⌝ }
 {
     let said = tables::say(print_into(planned, buf));
     let end = said.value as usize;

@@ -29,7 +29,8 @@ not-zero : {n : ℕ} → 1 ≤ n → n ≡ 0 → ⊥
 not-zero h e = omega arith
 
 -- a planned table that is given is rows
-pub plan-rows : (table : List ℕ) (r : Result) → PlanAnswer table (blank planned-width) r → r .number ≡ 0 → (r .value ≤ length (r .out)) × Rows planned-width (take (r .value) (r .out))
+pub plan-rows : (table : List ℕ) (r : Result) → PlanAnswer table (blank planned-width) r → r .number ≡ 0 →
+    (r .value ≤ length (r .out)) × Rows planned-width (take (r .value) (r .out))
 plan-rows table r a z =
     let tb = tableOf table in
     let g =
@@ -47,25 +48,35 @@ plan-rows table r a z =
     let f = s .few in
     let v = g .1 .given .many in
     let o = g .1 .given .whole in
-    let fits : r .value ≤ length (r .out) = omega arith in
-    (fits, record { n = tb .n; whole = length-take-le (r .value) (r .out) fits ∙ v; some = omega arith; few = omega arith })
+    let fits : r .value ≤ length (r .out) = omega arith in (
+      fits,
+      record {
+        n = tb .n;
+        whole = length-take-le (r .value) (r .out) fits ∙ v;
+        some = omega arith;
+        few = omega arith;
+      },
+    )
 
 -- a table that is given by sheet is within its output
-pub sheet-within : (text : List ℕ) (r : Result) → SheetAnswer text (blank row-width) r → r .number ≡ 0 → r .value ≤ row-width * most-rows
+pub sheet-within : (text : List ℕ) (r : Result) → SheetAnswer text (blank row-width) r → r .number ≡ 0 →
+    r .value ≤ row-width * most-rows
 sheet-within text r a z =
     ⊎-elim
     (λ x. absurd (not-zero (omega arith) (sym (x .number) ∙ z)))
     (λ x.
     let ticks = ticksOf (x .0) (x .1) in
     let g =
-    granted (range ticks ∷ room (length ticks) (blank row-width) ∷ []) (SheetGiven ticks (blank row-width)) (blank row-width) r
+    granted (range ticks ∷ room (length ticks) (blank row-width) ∷ []) (SheetGiven ticks (blank row-width))
+    (blank row-width) r
     refl z (x .3) in
     let v = g .1 .given .many in
     let f = x .2 .formed .few in omega (arith, length-ticks (x .0) (x .1)))
     a
 
 -- with room for it, print gives the text
-pub front-given : (planned : List ℕ) (len : ℕ) (front : List ℕ) → Rows planned-width planned → length (planText planned) ≤ len → PrintFront planned len front
+pub front-given : (planned : List ℕ) (len : ℕ) (front : List ℕ) → Rows planned-width planned →
+    length (planText planned) ≤ len → PrintFront planned len front
     → front ≡ planText planned
 front-given planned len front rows fits p =
     p .given
@@ -76,15 +87,18 @@ front-given planned len front rows fits p =
 
 -- one text has one page
 module _ {a b : List ℕ} where
-  pages-same : (x y : Answer) → numberOf x ≡ numberOf y → placeOf x ≡ placeOf y → (numberOf x ≡ 0 → numberOf y ≡ 0 → a ≡ b) → Refuses x a → Refuses y b → a ≡ b
+  pages-same : (x y : Answer) → numberOf x ≡ numberOf y → placeOf x ≡ placeOf y →
+      (numberOf x ≡ 0 → numberOf y ≡ 0 → a ≡ b) → Refuses x a → Refuses y b → a ≡ b
   pages-same x y n p given f g =
       by-eq (numberOf x) 0
       (λ z. given z (sym n ∙ z))
-      (λ z. f z ∙ ap (λ (m : ℕ). refusedLine m (placeOf x)) n ∙ ap (refusedLine (numberOf y)) p ∙ sym (g (λ w. z (n ∙ w))))
+      (λ z. f z ∙ ap (λ (m : ℕ). refusedLine m (placeOf x)) n ∙ ap (refusedLine (numberOf y)) p
+      ∙ sym (g (λ w. z (n ∙ w))))
 
   planned-unique : (table : List ℕ) → PagePlanned table a → PagePlanned table b → a ≡ b
   planned-unique table p q =
-      let e = plan-unique table (blank planned-width) (resultOf (p .answer) (p .after)) (resultOf (q .answer) (q .after)) (p .plan) (q .plan) in
+      let e = plan-unique table (blank planned-width) (resultOf (p .answer) (p .after))
+      (resultOf (q .answer) (q .after)) (p .plan) (q .plan) in
       pages-same (p .answer) (q .answer) (ap (λ (r : Result). r .number) e) (ap (λ (r : Result). r .place) e)
       (λ z w. p .given z ∙ ap (λ (r : Result). planText (take (r .value) (r .out))) e ∙ sym (q .given w))
       (p .refused)
@@ -92,7 +106,8 @@ module _ {a b : List ℕ} where
 
   pub page-unique : (text : List ℕ) → Page text a → Page text b → a ≡ b
   page-unique text p q =
-      let e = sheet-unique text (blank row-width) (resultOf (p .answer) (p .after)) (resultOf (q .answer) (q .after)) (p .sheet) (q .sheet) in
+      let e = sheet-unique text (blank row-width) (resultOf (p .answer) (p .after)) (resultOf (q .answer) (q .after))
+      (p .sheet) (q .sheet) in
       pages-same (p .answer) (q .answer) (ap (λ (r : Result). r .number) e) (ap (λ (r : Result). r .place) e)
       (λ z w.
       planned-unique (take (valueOf (p .answer)) (p .after)) (p .given z)

@@ -77,7 +77,8 @@ fn read_input(buf: &mut [u8]) -> Input
     Input::Whole(n)
 }
 
-// The buffer of 4,096 bytes holds every well-formed sheet, and a longer text has the page of its first 4,096 bytes (`page-cut`).
+// The buffer of 4,096 bytes holds every well-formed sheet, and a longer text has the page of its first 4,096 bytes
+// (`page-cut`).
 pub fn run() {
     let mut text = io::buffer();
     let input = read_input(&mut text);

@@ -45,16 +45,19 @@ module _ (end : ℕ) (other : end < nought) where
       by-eq v 0
       (λ z. rw z (rw (z, digits-zero) at e))
       (λ z.
-      let r = off k (v / 10) w ((nought + v % 10) ∷ t) (omega arith) (rw (digits-last v (omega arith), append-assoc) at e) in
+      let r = off k (v / 10) w ((nought + v % 10) ∷ t) (omega arith)
+      (rw (digits-last v (omega arith), append-assoc) at e) in
       ⊎-elim
       (λ a. absurd (let b = a .0 in omega arith))
       (λ a.
-      let same : 10 * (v / 10) + a .0 ≡ v = (let b = a .1 .byte in omega arith) in subst (λ (n : ℕ). Ends end n t w) same (a .3))
+      let same : 10 * (v / 10) + a .0 ≡ v = (let b = a .1 .byte in omega arith) in
+      subst (λ (n : ℕ). Ends end n t w) same (a .3))
       r)
 
   grows : (s : List ℕ) (v w : ℕ) → Ends end v s w → v ≤ w
   grows [] v w e = absurd e
-  grows (b ∷ s) v w e = ⊎-elim (λ a. let q = a .1 in omega arith) (λ a. let r = grows s (10 * v + a .0) w (a .3) in omega arith) e
+  grows (b ∷ s) v w e = ⊎-elim (λ a. let q = a .1 in omega arith)
+      (λ a. let r = grows s (10 * v + a .0) w (a .3) in omega arith) e
 
   -- the text of a number
   number-ends : (w : ℕ) (y : List ℕ) → 1 ≤ w → Ends end 0 ((decimal w ++ end ∷ []) ++ y) w
@@ -68,7 +71,8 @@ module _ (end : ℕ) (other : end < nought) where
   pub zero-differs : (w : ℕ) (x y : List ℕ) → 1 ≤ w → decimal 0 ++ (end ∷ x) ≡ decimal w ++ (end ∷ y) → ⊥
   unfolding decimal
   zero-differs w x y h e =
-      let g : Ends end 0 (nought ∷ end ∷ x) w = rw (← e ∙ sym (append-assoc (decimal w) (end ∷ []) y)) at (number-ends w y h) in
+      let g : Ends end 0 (nought ∷ end ∷ x) w = rw (← e ∙ sym (append-assoc (decimal w) (end ∷ []) y))
+      at (number-ends w y h) in
       ⊎-elim
       (λ q. let b = q .0 in omega arith)
       (λ q. let b = q .1 .byte in let l = q .2 in omega arith)
@@ -77,7 +81,8 @@ module _ (end : ℕ) (other : end < nought) where
   pub code-number : (most : ℕ) → Code (numberPiece most end)
   code-number most a b ha hb x y e =
       let f : digits a ++ (end ∷ x) ≡ (decimal b ++ end ∷ []) ++ y =
-      ap (λ (l : List ℕ). l ++ (end ∷ x)) (sym (decimal-digits a (ha .low))) ∙ sym (append-assoc (decimal a) (end ∷ []) x) ∙ e in
+      ap (λ (l : List ℕ). l ++ (end ∷ x)) (sym (decimal-digits a (ha .low)))
+      ∙ sym (append-assoc (decimal a) (end ∷ []) x) ∙ e in
       ⊎-elim (λ q. q .1) (λ q. absurd (let l = q .1 .byte in omega arith)) (next a b (end ∷ x) y (hb .low) f)
 
   module _ (most v : ℕ) (s t : List ℕ) (some : 1 ≤ most) (high : v ≤ most) (split : s ≡ digits v ++ t) where
@@ -98,10 +103,7 @@ module _ (end : ℕ) (other : end < nought) where
         (λ z. (
           v,
           record { low = omega arith; high = high },
-          (
-            end ∷ [],
-            ap (λ (l : List ℕ). l ++ end ∷ []) (front ∙ sym (decimal-digits v (omega arith))),
-          ),
+          (end ∷ [], ap (λ (l : List ℕ). l ++ end ∷ []) (front ∙ sym (decimal-digits v (omega arith)))),
         ))
 
     -- the text ends behind the digits of v
@@ -130,21 +132,27 @@ module _ (end : ℕ) (other : end < nought) where
         ∙ ap (take (n + 1)) split
         ∙ take-append-add (digits v) t 1
         ∙ ap (λ (l : List ℕ). digits v ++ take 1 l) e in
-        let wrong : (w : ℕ) (z y : List ℕ) → Between most w → digits v ++ (b ∷ z) ≡ (decimal w ++ end ∷ []) ++ y → ⊥ = λ w z y hw g.
+        let wrong : (w : ℕ) (z y : List ℕ) → Between most w → digits v ++ (b ∷ z) ≡ (decimal w ++ end ∷ []) ++ y → ⊥ =
+        λ w z y hw g.
         ⊎-elim
         (λ q. let l = hw .low in let o = q .1 in let p = no-end (q .0) in omega arith)
-        (λ q. no-digit (q .0) (q .1) (record { low = q .2; high = let m = grows z (10 * v + q .0) w (q .3) in let l = hw .high in omega arith }))
+        (λ q. no-digit (q .0) (q .1) (record {
+          low = q .2;
+          high = let m = grows z (10 * v + q .0) w (q .3) in let l = hw .high in omega arith;
+        }))
         (next v w (b ∷ z) y (hw .low) g) in
         record {
           within = omega arith;
           begun = begun;
           no-more = λ l w hw y g.
-              wrong w (g .0) y hw (sym (append-assoc (digits v) (b ∷ []) (g .0)) ∙ ap (λ (k : List ℕ). k ++ g .0) (sym here) ∙ g .1);
+              wrong w (g .0) y hw (sym (append-assoc (digits v) (b ∷ []) (g .0))
+              ∙ ap (λ (k : List ℕ). k ++ g .0) (sym here) ∙ g .1);
           no-text = λ w hw y g. wrong w u y hw (ap (λ (k : List ℕ). digits v ++ k) (sym e) ∙ sym split ∙ g);
         }
 
 -- the digits of v and the byte end behind them
-pub number-passed : (most end v : ℕ) (s : List ℕ) (at next : ℕ) → 1 ≤ v → v ≤ most → next ≤ length s → next ≡ at + length (digits v) + 1
+pub number-passed : (most end v : ℕ) (s : List ℕ) (at next : ℕ) → 1 ≤ v → v ≤ most → next ≤ length s →
+    next ≡ at + length (digits v) + 1
     → drop at s ≡ digits v ++ (end ∷ drop next s) → Passed (numberPiece most end) s at v next
 number-passed most end v s at next low high within behind split =
     record {
@@ -171,13 +179,16 @@ number-grows v b r d s u low digit more e =
     )
 
 -- a decimal text with a byte behind it that is no digit tells the number, 0 among them
-pub decimal-tells : (end : ℕ) → end < nought → (v w : ℕ) (x y : List ℕ) → decimal v ++ (end ∷ x) ≡ decimal w ++ (end ∷ y) → v ≡ w
+pub decimal-tells : (end : ℕ) → end < nought → (v w : ℕ) (x y : List ℕ) →
+    decimal v ++ (end ∷ x) ≡ decimal w ++ (end ∷ y) → v ≡ w
 decimal-tells end other v w x y e =
     by-eq v 0
-    (λ p. by-eq w 0 (λ q. p ∙ sym q) (λ q. absurd (zero-differs end other w x y (omega arith) (ap (λ (n : ℕ). decimal n ++ (end ∷ x)) (sym p) ∙ e))))
+    (λ p. by-eq w 0 (λ q. p ∙ sym q) (λ q. absurd
+    (zero-differs end other w x y (omega arith) (ap (λ (n : ℕ). decimal n ++ (end ∷ x)) (sym p) ∙ e))))
     (λ p.
     by-eq w 0
     (λ q. absurd (zero-differs end other v y x (omega arith) (ap (λ (n : ℕ). decimal n ++ (end ∷ y)) (sym q) ∙ sym e)))
     (λ q.
-    code-number end other (v + w) v w (record { low = omega arith; high = omega arith }) (record { low = omega arith; high = omega arith }) x y
+    code-number end other (v + w) v w (record { low = omega arith; high = omega arith })
+    (record { low = omega arith; high = omega arith }) x y
     (append-assoc (decimal v) (end ∷ []) x ∙ e ∙ sym (append-assoc (decimal w) (end ∷ []) y))))

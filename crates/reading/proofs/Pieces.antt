@@ -24,7 +24,8 @@ pub code-word : (w : List ℕ) → Code (wordPiece w)
 code-word w a b ha hb x y e = refl
 
 -- and what follows it
-pub code-rest : (P : Piece) → Code P → (a b : P .Value) → P .Allowed a → P .Allowed b → (x y : List ℕ) → P .text a ++ x ≡ P .text b ++ y → x ≡ y
+pub code-rest : (P : Piece) → Code P → (a b : P .Value) → P .Allowed a → P .Allowed b → (x y : List ℕ) →
+    P .text a ++ x ≡ P .text b ++ y → x ≡ y
 code-rest P code a b ha hb x y e =
     let q = ap (P .text) (code a b ha hb x y e) in cancel (P .text b) (ap (λ (t : List ℕ). t ++ x) (sym q) ∙ e)
 
@@ -49,7 +50,8 @@ module _ (P Q : Piece) where
           (h .begun .1, hb),
           (
             h .begun .2 .0 ++ Q .text b,
-            sym (append-assoc (take p s) (h .begun .2 .0) (Q .text b)) ∙ ap (λ (t : List ℕ). t ++ Q .text b) (h .begun .2 .1),
+            sym (append-assoc (take p s) (h .begun .2 .0) (Q .text b)) ∙ ap (λ (t : List ℕ). t ++ Q .text b)
+                (h .begun .2 .1),
           ),
         );
         no-more = λ l v hv y g. h .no-more l (v .0) (hv .0) (Q .text (v .1) ++ y) (g .0, g .1 ∙ behind (v .0) (v .1) y);
@@ -62,7 +64,8 @@ module _ (P Q : Piece) where
   both-second {s} {t} {p} code a ha e h =
       let n = length (P .text a) in
       let long = ap length e ∙ length-append (P .text a) t in
-      let front : (m : ℕ) → take (n + m) s ≡ P .text a ++ take m t = λ m. ap (take (n + m)) e ∙ take-append-add (P .text a) t m in
+      let front : (m : ℕ) → take (n + m) s ≡ P .text a ++ take m t =
+      λ m. ap (take (n + m)) e ∙ take-append-add (P .text a) t m in
       record {
         within = let w = h .within in omega arith;
         begun = (
@@ -89,10 +92,12 @@ module _ (P Q : Piece) where
             (code-rest P code a (v .0) ha (hv .0) t (Q .text (v .1) ++ y) (sym e ∙ g ∙ behind (v .0) (v .1) y));
       }
 
-  pub stuck-first : {s : List ℕ} {at place : ℕ} → Stuck P s at place → (b : Q .Value) → Q .Allowed b → Stuck (both P Q) s at place
+  pub stuck-first : {s : List ℕ} {at place : ℕ} → Stuck P s at place → (b : Q .Value) → Q .Allowed b →
+      Stuck (both P Q) s at place
   stuck-first h b hb = record { ahead = h .ahead; reached = h .reached; stops = both-first (h .stops) b hb }
 
-  pub stuck-second : {s : List ℕ} {at m place : ℕ} {a : P .Value} → Code P → Passed P s at a m → Stuck Q s m place → Stuck (both P Q) s at place
+  pub stuck-second : {s : List ℕ} {at m place : ℕ} {a : P .Value} → Code P → Passed P s at a m → Stuck Q s m place →
+      Stuck (both P Q) s at place
   stuck-second {s} {at} {m} {place} {a} code f h =
       record {
         ahead = length (P .text a) + h .ahead;
@@ -100,7 +105,8 @@ module _ (P Q : Piece) where
         stops = both-second code a (f .allowed) (f .split) (h .stops);
       }
 
-  pub passed-both : {s : List ℕ} {at m n : ℕ} {a : P .Value} {b : Q .Value} → Passed P s at a m → Passed Q s m b n → Passed (both P Q) s at (a, b) n
+  pub passed-both : {s : List ℕ} {at m n : ℕ} {a : P .Value} {b : Q .Value} → Passed P s at a m → Passed Q s m b n →
+      Passed (both P Q) s at (a, b) n
   passed-both {s} {at} {m} {n} {a} {b} f g =
       record {
         allowed = (f .allowed, g .allowed);
@@ -123,10 +129,16 @@ module _ {P Q : Piece} (e : Alike P Q) where
   alike-stops {s} {p} h =
       record {
         within = h .within;
-        begun = (e .to (h .begun .0), e .allowed-to (h .begun .0) (h .begun .1), (h .begun .2 .0, h .begun .2 .1 ∙ e .text-to (h .begun .0)));
+        begun = (
+          e .to (h .begun .0),
+          e .allowed-to (h .begun .0) (h .begun .1),
+          (h .begun .2 .0, h .begun .2 .1 ∙ e .text-to (h .begun .0)),
+        );
         no-more = λ l w hw y g.
-            h .no-more l (e .back w) (e .allowed-back w hw) y (g .0, g .1 ∙ ap (λ (t : List ℕ). t ++ y) (sym (e .text-back w)));
-        no-text = λ w hw y g. h .no-text (e .back w) (e .allowed-back w hw) y (g ∙ ap (λ (t : List ℕ). t ++ y) (sym (e .text-back w)));
+            h .no-more l (e .back w) (e .allowed-back w hw) y
+            (g .0, g .1 ∙ ap (λ (t : List ℕ). t ++ y) (sym (e .text-back w)));
+        no-text = λ w hw y g. h .no-text (e .back w) (e .allowed-back w hw) y
+            (g ∙ ap (λ (t : List ℕ). t ++ y) (sym (e .text-back w)));
       }
 
   pub alike-stuck : {s : List ℕ} {at place : ℕ} → Stuck P s at place → Stuck Q s at place

@@ -42,20 +42,27 @@ module _ (P : Piece) where
   passed-or-stuck : {s : List ℕ} {at next place : ℕ} {v : P .Value} → Passed P s at v next → Stuck P s at place → ⊥
   passed-or-stuck {s} {at} {next} {place} {v} a b = b .stops .no-text v (a .allowed) (drop next s) (a .split)
 
-  passed-unique : Code P → {s : List ℕ} {at m n : ℕ} {v w : P .Value} → Passed P s at v m → Passed P s at w n → (v ≡ w) × (m ≡ n)
+  passed-unique : Code P → {s : List ℕ} {at m n : ℕ} {v w : P .Value} → Passed P s at v m → Passed P s at w n →
+      (v ≡ w) × (m ≡ n)
   passed-unique code {s} {at} {m} {n} {v} {w} a b =
       let e = code v w (a .allowed) (b .allowed) (drop m s) (drop n s) (sym (a .split) ∙ b .split) in
       (e, a .behind ∙ ap (λ (u : P .Value). at + length (P .text u)) e ∙ sym (b .behind))
 
 pub word-unique : (w s : List ℕ) (at : ℕ) (a b : WordRead) → ReadsWord w s at a → ReadsWord w s at b → a ≡ b
-word-unique w s at (word.Past m) (word.Past n) p q = ap (λ (k : ℕ). word.Past (record { at = k })) (passed-unique (wordPiece w) (code-word w) p q .1)
+word-unique w s at (word.Past m) (word.Past n) p q = ap (λ (k : ℕ). word.Past (record { at = k }))
+    (passed-unique (wordPiece w) (code-word w) p q .1)
 word-unique w s at (word.Past m) (word.Stuck place) p q = absurd (passed-or-stuck (wordPiece w) p q)
 word-unique w s at (word.Stuck place) (word.Past n) p q = absurd (passed-or-stuck (wordPiece w) q p)
 word-unique w s at (word.Stuck a) (word.Stuck b) p q = ap word.Stuck (stuck-unique (wordPiece w) p q)
 
-pub number-unique : (most end : ℕ) → end < nought → (s : List ℕ) (at : ℕ) (a b : NumberRead) → ReadsNumber most end s at a → ReadsNumber most end s at b → a ≡ b
+pub number-unique : (most end : ℕ) → end < nought → (s : List ℕ) (at : ℕ) (a b : NumberRead) →
+    ReadsNumber most end s at a → ReadsNumber most end s at b → a ≡ b
 number-unique most end other s at (number.Past v m) (number.Past w n) p q =
-    let e = passed-unique (numberPiece most end) (code-number end other most) p q in λ i. number.Past (e .0 i) (record { at = e .1 i })
-number-unique most end other s at (number.Past v m) (number.Stuck place) p q = absurd (passed-or-stuck (numberPiece most end) p q)
-number-unique most end other s at (number.Stuck place) (number.Past w n) p q = absurd (passed-or-stuck (numberPiece most end) q p)
-number-unique most end other s at (number.Stuck a) (number.Stuck b) p q = ap number.Stuck (stuck-unique (numberPiece most end) p q)
+    let e = passed-unique (numberPiece most end) (code-number end other most) p q in
+    λ i. number.Past (e .0 i) (record { at = e .1 i })
+number-unique most end other s at (number.Past v m) (number.Stuck place) p q =
+    absurd (passed-or-stuck (numberPiece most end) p q)
+number-unique most end other s at (number.Stuck place) (number.Past w n) p q =
+    absurd (passed-or-stuck (numberPiece most end) q p)
+number-unique most end other s at (number.Stuck a) (number.Stuck b) p q =
+    ap number.Stuck (stuck-unique (numberPiece most end) p q)

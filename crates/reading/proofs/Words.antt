@@ -34,7 +34,8 @@ module _ (w s : List ℕ) (i : ℕ) (same : take i s ≡ take i w) where
       }
 
 -- the whole word
-pub word-passed : (w s : List ℕ) (at : ℕ) → at + length w ≤ length s → take (length w) (drop at s) ≡ take (length w) w → Passed (wordPiece w) s at tt (at + length w)
+pub word-passed : (w s : List ℕ) (at : ℕ) → at + length w ≤ length s → take (length w) (drop at s) ≡ take (length w) w →
+    Passed (wordPiece w) s at tt (at + length w)
 word-passed w s at fits same =
     record {
       allowed = tt;

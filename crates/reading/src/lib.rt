@@ -16,7 +16,8 @@ pub enum WordRead {
     Stuck(usize),
 }
 
-// A number was there, and the cursor behind the byte that ends it; or the place up to which some such number could stand there.
+// A number was there, and the cursor behind the byte that ends it; or the place up to which some such number could
+// stand there.
 pub enum NumberRead {
     Past(u64, Cursor),
     Stuck(usize),

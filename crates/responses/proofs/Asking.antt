@@ -20,7 +20,13 @@ asking-planned tb ps p =
       sound = sound-for tb refl (p .sound);
       busy = record { period = p .busy .period; busy = busy-for tb refl (p .busy .busy); within = p .busy .within };
       whole = p .whole;
-      plan = record { rank-low = w .rank-low; rank-high = w .rank-high; once = w .once; len-low = w .len-low; len-high = w .len-high };
+      plan = record {
+        rank-low = w .rank-low;
+        rank-high = w .rank-high;
+        once = w .once;
+        len-low = w .len-low;
+        len-high = w .len-high;
+      };
     }
 
 module _ {a : Table} (tb : Table) (e : a ≡ asking tb) (ps : List ℕ) where

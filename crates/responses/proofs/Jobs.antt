@@ -32,14 +32,16 @@ module _ {tb : Table} {P : ℕ → Bool} {b i q L : ℕ} (w : Working tb P b i q
 
     pub job-starts : (low : ℕ) → ((s : ℕ) → Start tb P b i q (suc k) s → low ≤ s) → StartWithin tb P b i q (suc k) low
     job-starts low lower =
-        let r = start-exists tb P b i (w .positive) (w .row) q (w .some) (w .most) L (w .active) (suc k) (omega arith) counts in
+        let r = start-exists tb P b i (w .positive) (w .row) q (w .some) (w .most) L (w .active) (suc k) (omega arith)
+        counts in
         record { start = r .0; starts = r .1; within = omega (arith, r .2, w .within); lower = lower (r .0) (r .1) }
 
     pub job-after : {s : ℕ} → Start tb P b i q (suc k) s → k * tb .T i + tb .C i ≤ s + q
     job-after {s} = start-after tb P b i (w .positive) (w .row) q (w .some) (w .most) L (w .active) k s counts
 
     pub job-ends : {s : ℕ} → Start tb P b i q (suc k) s → s + q ≤ L
-    job-ends {s} = finish-high tb P b i (w .positive) (w .row) q (w .some) (w .most) L (w .active) (suc k) s (omega arith) counts
+    job-ends {s} = finish-high tb P b i (w .positive) (w .row) q (w .some) (w .most) L (w .active) (suc k) s
+        (omega arith) counts
 
   -- each start but the first is no lower than the one before plus C
   pub next-low : (k : ℕ) {s u : ℕ} → Start tb P b i q (suc k) s → Start tb P b i q (suc (suc k)) u → s + tb .C i ≤ u

@@ -51,7 +51,8 @@ module _ {tb : Table} {P : ℕ → Bool} {b i q k R s : ℕ} (p : Passed tb P b 
       }
 
 -- all jobs of the active period are passed
-pub passed-all : {tb : Table} {P : ℕ → Bool} {b i q L R : ℕ} → Working tb P b i q L → Passed tb P b i q (jobs tb P b i L) R →
+pub passed-all : {tb : Table} {P : ℕ → Bool} {b i q L R : ℕ} → Working tb P b i q L →
+    Passed tb P b i q (jobs tb P b i L) R →
     Response tb P b i q R
 passed-all {tb} {P} {b} {i} {q} {L} {R} w p =
     let one = jobs-some tb P b i (w .positive) (w .row) L (w .active) in

@@ -61,11 +61,11 @@ module _ (p : Plan) (r : ℕ) where
   longest-step i = rw (add-one i)
 
   pub longest-more : (i : ℕ) → r < p .rank i → longest-in (i + 1) ≡ max (longest-in i) (p .len i)
-  longest-more i h = longest-step i ∙ ap (max (longest-in i)) (given-yes (below p r i) (blocks p i) (lt-ltb r (p .rank i) h))
+  longest-more i h = longest-step i ∙ ap (max (longest-in i))
+      (given-yes (below p r i) (blocks p i) (lt-ltb r (p .rank i) h))
 
   pub longest-same : (i : ℕ) → p .rank i ≤ r → longest-in (i + 1) ≡ longest-in i
-  longest-same i h =
-      omega (arith, longest-step i, given-no (below p r i) (blocks p i) (le-ltb r (p .rank i) h))
+  longest-same i h = omega (arith, longest-step i, given-no (below p r i) (blocks p i) (le-ltb r (p .rank i) h))
 
   pub blocking-in : (n b : ℕ) → b ≡ pred (longest-in n) → Blocks p n r b
   unfolding longest-in blocking longest

@@ -1,4 +1,5 @@
--- A row of a plan, with its rows above as a set and its blocking as a number: what its response asks for, and what it then is.
+-- A row of a plan, with its rows above as a set and its blocking as a number: what its response asks for, and what it
+-- then is.
 use Prim.Native.Nat.{ℕ, _≤_, _<_}
 use mathlib.Core.Path.{_≡_, refl, sym, _∙_, subst}
 use mathlib.Core.Bool.{Bool, true}
@@ -63,4 +64,5 @@ module _ {tb : Table} {ps : List ℕ} {i set b : ℕ} (p : Placed tb ps i set b)
 
   pub response-small : {R : ℕ} → Response tb (marked set) b i (planOf ps .len i) R → R ≤ horizon
   response-small {R} x =
-      plan-bounded tb (p .planned .sound) (p .planned .busy) (planOf ps) (p .planned .plan) i (p .row) R (response-here x) .high
+      plan-bounded tb (p .planned .sound) (p .planned .busy) (planOf ps) (p .planned .plan) i (p .row) R
+      (response-here x) .high

@@ -1,4 +1,5 @@
--- The rows below n alone count: two tests of the rows above that agree on them give the same periods, starts and responses.
+-- The rows below n alone count: two tests of the rows above that agree on them give the same periods, starts and
+-- responses.
 use Prim.Native.Nat.{ℕ, _<_}
 use mathlib.Core.Path.{_≡_, sym, _∙_}
 use mathlib.Core.Bool.{Bool}
@@ -36,7 +37,8 @@ module _ (tb : Table) (P Q : ℕ → Bool) (b i : ℕ) (same : Agree tb P Q) whe
         ends = x .ends;
       }
 
-pub response-same : (tb : Table) (P Q : ℕ → Bool) (b i q R : ℕ) → Agree tb P Q → Response tb P b i q R → Response tb Q b i q R
+pub response-same : (tb : Table) (P Q : ℕ → Bool) (b i q R : ℕ) → Agree tb P Q → Response tb P b i q R →
+    Response tb Q b i q R
 response-same tb P Q b i q R same r =
     record {
       period = r .period;

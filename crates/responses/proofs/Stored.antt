@@ -1,4 +1,5 @@
--- Laws of numbers stored one by one into a list of zeros: what holds of each stored so far holds of one more, and the places not reached hold 0.
+-- Laws of numbers stored one by one into a list of zeros: what holds of each stored so far holds of one more, and the
+-- places not reached hold 0.
 use Prim.Native.Nat.{ℕ, _+_, _≤_, _<_}
 use mathlib.Core.Path.{_≡_, _∙_}
 use mathlib.Core.List.{List}
@@ -20,5 +21,6 @@ zeros m k =
     (λ h. List·getD-eq-default (replicate m 0) 0 {n = k} (omega (arith, length-replicate {A = ℕ} m 0)))
     (λ h. getD-replicate m k 0 0 h)
 
-pub unreached : (l : List ℕ) (i x : ℕ) → ((j : ℕ) → i ≤ j → getD l j 0 ≡ 0) → (j : ℕ) → i + 1 ≤ j → getD (set l i x) j 0 ≡ 0
+pub unreached : (l : List ℕ) (i x : ℕ) → ((j : ℕ) → i ≤ j → getD l j 0 ≡ 0) → (j : ℕ) → i + 1 ≤ j →
+    getD (set l i x) j 0 ≡ 0
 unreached l i x past j h = getD-set-other l i j x 0 (λ e. omega arith) ∙ past j (omega arith)

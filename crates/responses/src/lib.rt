@@ -31,8 +31,8 @@ fn start(asks: &[u32; 64], n: usize, above: u32, b: u64, i: usize, q: u64, k: u6
     found
 }
 
-// The response of row i with blocking b and length q, the rows of the set above it. The active period and the first start begin at what
-// is asked for in the first tick, each other start at the one before plus C.
+// The response of row i with blocking b and length q, the rows of the set above it. The active period and the first
+// start begin at what is asked for in the first tick, each other start at the one before plus C.
 pub fn response(asks: &[u32; 64], n: usize, above: u32, b: u64, i: usize, q: u64) -> u64
     requires { ⌜ Level (now asks) n above × (b ≤ horizon) × (i < n)
         × (1 ≤ q) × (q ≤ askingIn (now asks) n .C i) × ActiveWithin (askingIn (now asks) n) (marked above) b i 1 ⌝ }

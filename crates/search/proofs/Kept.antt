@@ -1,4 +1,5 @@
--- Laws of the response that is kept beside a length's trial: the largest over the jobs passed, and after the last job the response.
+-- Laws of the response that is kept beside a length's trial: the largest over the jobs passed, and after the last job
+-- the response.
 use Prim.Native.Nat.{ℕ, suc, _+_, _-_, _*_, max, _≤_, _<_}
 use mathlib.Core.Path.{_≡_, sym, subst}
 use mathlib.Core.Bool.{Bool}
@@ -33,8 +34,11 @@ module _ {tb : Table} {P : ℕ → Bool} {b i q L k s : ℕ} (w : Working tb P b
       let one : k - 1 + 1 ≡ k = omega (arith, t .low) in
       subst (λ m. Passed tb P b i q m (max R took)) one
       (by-le took R
-      (λ h. let z : R ≡ max R took = omega arith in subst (Passed tb P b i q (k - 1 + 1)) z (passed-same p starts after h))
-      (λ h. let z : took ≡ max R took = omega arith in subst (Passed tb P b i q (k - 1 + 1)) z (passed-larger p starts after h)))
+      (λ h. let z : R ≡ max R took = omega arith in subst (Passed tb P b i q (k - 1 + 1)) z
+      (passed-same p starts after h))
+      (λ h. let z : took ≡ max R took = omega arith in subst (Passed tb P b i q (k - 1 + 1)) z
+      (passed-larger p starts after h)))
 
-  pub kept-all : {R : ℕ} → Passed tb P b i q (k - 1) R → k ≡ jobs tb P b i L → Response tb P b i q (max R (s + q - (k - 1) * tb .T i))
+  pub kept-all : {R : ℕ} → Passed tb P b i q (k - 1) R → k ≡ jobs tb P b i L →
+      Response tb P b i q (max R (s + q - (k - 1) * tb .T i))
   kept-all {R} p g = passed-all w (subst (λ m. Passed tb P b i q m (max R (s + q - (k - 1) * tb .T i))) g (kept-more p))

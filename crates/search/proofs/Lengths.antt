@@ -34,7 +34,8 @@ module _ (tb : Table) (P : ℕ → Bool) (b i top : ℕ) where
       }
 
   -- the length tried fits, and is the new high; or it does not, and the new low is past it
-  pub narrowed-fits : {low high len lo hi r : ℕ} → Narrowed low high len → low < high → Fits tb P b i len → lo ≡ low → hi ≡ len →
+  pub narrowed-fits : {low high len lo hi r : ℕ} → Narrowed low high len → low < high → Fits tb P b i len → lo ≡ low →
+      hi ≡ len →
       Between lo hi r → Narrowed lo hi r
   narrowed-fits w h f e g n =
       record {
@@ -46,7 +47,8 @@ module _ (tb : Table) (P : ℕ → Bool) (b i top : ℕ) where
         next = n;
       }
 
-  pub narrowed-misses : {low high len lo hi r : ℕ} → Positive tb → i < tb .n → top ≤ tb .C i → Narrowed low high len → low < high →
+  pub narrowed-misses : {low high len lo hi r : ℕ} → Positive tb → i < tb .n → top ≤ tb .C i → Narrowed low high len →
+      low < high →
       ¬ Fits tb P b i len → lo ≡ len + 1 → hi ≡ high → Between lo hi r → Narrowed lo hi r
   narrowed-misses {low} {high} {len} pos l t w h f e g n =
       record {
@@ -54,7 +56,8 @@ module _ (tb : Table) (P : ℕ → Bool) (b i top : ℕ) where
         order = omega (arith, w .next h .1);
         within = omega (arith, w .within);
         shorter =
-            λ m x y fit. f (fits-longer tb pos i l P b m len x (omega arith) (omega (arith, w .next h .1, w .within)) fit);
+            λ m x y fit. f (fits-longer tb pos i l P b m len x (omega arith) (omega (arith, w .next h .1, w .within))
+            fit);
         found = λ x. subst (Fits tb P b i) (sym g) (w .found (omega arith));
         next = n;
       }

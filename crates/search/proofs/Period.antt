@@ -1,4 +1,5 @@
--- Laws of a level's active period: it is the same for every row of the level, and with the blocking lies within the horizon.
+-- Laws of a level's active period: it is the same for every row of the level, and with the blocking lies within the
+-- horizon.
 use Prim.Native.Nat.{ℕ, _+_, _≤_, _<_}
 use mathlib.Core.Path.{_≡_, sym, _∙_}
 use mathlib.Core.Bool.{Bool, true}
@@ -15,7 +16,8 @@ use Rattle.test.proofs.Plans.{level-active}
 
 module _ (tb : Table) (U : ℕ → Bool) (b : ℕ) where
   -- one active period for all rows of U
-  pub period-same : (i j L : ℕ) → i < tb .n → U i ≡ true → j < tb .n → U j ≡ true → Active tb (without U i) b i L → Active tb (without U j) b j L
+  pub period-same : (i j L : ℕ) → i < tb .n → U i ≡ true → j < tb .n → U j ≡ true → Active tb (without U i) b i L →
+      Active tb (without U j) b j L
   period-same i j L l e g f a =
       least-map
       (λ t _ h. h ∙ active-side-level tb U b i t l e ∙ sym (active-side-level tb U b j t g f))
@@ -26,7 +28,8 @@ module _ (tb : Table) (U : ℕ → Bool) (b : ℕ) where
     pub blocking-within : b ≤ horizon
     blocking-within = omega (arith, room (w .period) (w .busy .low), w .busy .holds, w .within)
 
-    pub period-exists : (i : ℕ) → Positive tb → i < tb .n → U i ≡ true → (L : ℕ) × Active tb (without U i) b i L × (L ≤ horizon)
+    pub period-exists : (i : ℕ) → Positive tb → i < tb .n → U i ≡ true →
+        (L : ℕ) × Active tb (without U i) b i L × (L ≤ horizon)
     period-exists i pos l e =
         let r =
         level-active tb (without U i) b i pos l w

@@ -12,7 +12,8 @@ use Rattle.tables.specs.Table.{Table}
 use Rattle.tables.specs.Plan.{cap}
 use Rattle.choice.specs.Choice.{Fits, Shortest, Takes, NoneFits}
 
--- top is the longest length with which a row of worst run c can still take the rank, where the best length so far is `best`, 0 if there is none
+-- top is the longest length with which a row of worst run c can still take the rank, where the best length so far is
+-- `best`, 0 if there is none
 abbrev pub Worth : ℕ → ℕ → ℕ → Type 0
 Worth c best top = (best ≡ 0 → top ≡ c) × (1 ≤ best → top ≡ min c (best - 1))
 
@@ -20,12 +21,14 @@ pub worth-le : (c best top : ℕ) → Worth c best top → top ≤ c
 worth-le c best top k = by-le 1 best (λ h. omega (arith, k .1 h)) (λ h. omega (arith, k .0 (omega arith)))
 
 module _ (tb : Table) (U : ℕ → Bool) (b : ℕ) (W : ℕ → Bool) where
-  -- row has the least shortest length, best, of the rows of W that are no longer in rest; best is 0 where none of them has any
+  -- row has the least shortest length, best, of the rows of W that are no longer in rest; best is 0 where none of them
+  -- has any
   pub record Seen (row best rest : ℕ) : Type 0 where
     pub among : (j : ℕ) → marked rest j ≡ true → W j ≡ true
     pub found : 1 ≤ best → (row < tb .n) × (W row ≡ true) × Shortest tb U b row best
     pub later : 1 ≤ best → (j : ℕ) → marked rest j ≡ true → row < j
-    pub least : (z l : ℕ) → z < tb .n → W z ≡ true → marked rest z ≡ false → 1 ≤ l → l ≤ cap tb z → Fits tb (without U z) b z l →
+    pub least : (z l : ℕ) → z < tb .n → W z ≡ true → marked rest z ≡ false → 1 ≤ l → l ≤ cap tb z →
+        Fits tb (without U z) b z l →
         (1 ≤ best) × (best ≤ l) × (z < row → best < l)
 
   pub seen-first : (rest : ℕ) → ((j : ℕ) → W j ≡ marked rest j) → Seen 0 0 rest
@@ -37,11 +40,16 @@ module _ (tb : Table) (U : ℕ → Bool) (b : ℕ) (W : ℕ → Bool) where
         least = λ z l g v m. not-both (W z) (same z ∙ m) v;
       }
 
-  module _ (row best rest i left top : ℕ) (w : Seen row best rest) (n : Next rest i) (d : Less rest i left) (g : i < tb .n) (k : Worth (tb .C i) best top) where
+  module _ (row best rest i left top : ℕ) (w : Seen row best rest) (n : Next rest i) (d : Less rest i left)
+      (g : i < tb .n) (k : Worth (tb .C i) best top) where
     still : (j : ℕ) → marked left j ≡ true → (marked rest j ≡ true) × (i < j)
     still j e =
         without-elim (marked rest) i j (ap (λ Q. Q j) (sym (d .marks)) ∙ e)
-        (λ ne m. (m, let h = n .first .least j (omega arith) m in by-eq i j (λ q. absurd (ne (sym q))) (λ q. omega arith)))
+        (λ ne m. (
+          m,
+          let h = n .first .least j (omega arith) m in
+              by-eq i j (λ q. absurd (ne (sym q))) (λ q. omega arith),
+        ))
 
     -- a row that is no longer left was seen before, or is row i
     gone {ℓ} : {X : Type ℓ} (z : ℕ) → marked left z ≡ false → (z ≡ i → X) → (marked rest z ≡ false → X) → X
@@ -71,7 +79,8 @@ module _ (tb : Table) (U : ℕ → Bool) (b : ℕ) (W : ℕ → Bool) where
         }
 
     -- the shortest length of row i is no longer than the top
-    pub seen-better : (q : ℕ) → 1 ≤ q → q ≤ top → Fits tb (without U i) b i q → ((m : ℕ) → 1 ≤ m → m < q → ¬ Fits tb (without U i) b i m) → Seen i q left
+    pub seen-better : (q : ℕ) → 1 ≤ q → q ≤ top → Fits tb (without U i) b i q →
+        ((m : ℕ) → 1 ≤ m → m < q → ¬ Fits tb (without U i) b i m) → Seen i q left
     seen-better q lo hi f miss =
         record {
           among = λ j e. w .among j (still j e .0);
@@ -93,7 +102,8 @@ module _ (tb : Table) (U : ℕ → Bool) (b : ℕ) (W : ℕ → Bool) where
                 by-le q l (λ h. h) (λ h. absurd (miss l low h (subst (λ y. Fits tb (without U y) b y l) e fz))),
                 λ lt. absurd (omega arith),
               ))
-              (λ old. let o = w .least z l x v old low high fz in let t = k .1 (o .0) in (lo, omega (arith, o .0, o .1), λ _. omega (arith, o .0, o .1)));
+              (λ old. let o = w .least z l x v old low high fz in let t = k .1 (o .0) in
+              (lo, omega (arith, o .0, o .1), λ _. omega (arith, o .0, o .1)));
         }
       where
         reach : q ≤ tb .C i

@@ -31,7 +31,8 @@ module _ (tb : Table) (P : ℕ → Bool) (b i L q : ℕ) where
     pub met : (j t : ℕ) → 1 ≤ j → j < k → Start tb P b i q j t → t + q ≤ due tb i j
 
   module _ (pos : Positive tb) (l : i < tb .n) (a : Active tb P b i L) (some : 1 ≤ q) (most : q ≤ tb .C i) where
-    from-below : (k s : ℕ) → 1 ≤ k → k ≤ jobs tb P b i L → ((t : ℕ) → Start tb P b i q k t → s ≤ t) → Climbing (side k) 0 s
+    from-below : (k s : ℕ) → 1 ≤ k → k ≤ jobs tb P b i L → ((t : ℕ) → Start tb P b i q k t → s ≤ t) →
+        Climbing (side k) 0 s
     from-below k s h g le =
         let x = start-exists tb P b i pos l q some most L a k h g in
         climbing-below (side k) 0 s (start-side-mono tb P b i q k) (omega arith) (x .1) (omega arith) (le (x .0) (x .1))
@@ -42,7 +43,8 @@ module _ (tb : Table) (P : ℕ → Bool) (b i L q : ℕ) where
         record {
           low = omega arith;
           high = g;
-          climbing = from-below 1 (least - q) (omega arith) g (λ t st. omega (arith, e, start-first tb P b i pos l most st));
+          climbing = from-below 1 (least - q) (omega arith) g
+              (λ t st. omega (arith, e, start-first tb P b i pos l most st));
           met = λ j t x y. absurd (omega arith);
         }
 
@@ -54,7 +56,12 @@ module _ (tb : Table) (P : ℕ → Bool) (b i L q : ℕ) where
 
     pub trial-again : {k s : ℕ} → Trial k s → Trial k (side k s)
     trial-again {k} {s} w =
-        record { low = w .low; high = w .high; climbing = climbing-step (side k) 0 s (start-side-mono tb P b i q k) (w .climbing); met = w .met }
+        record {
+          low = w .low;
+          high = w .high;
+          climbing = climbing-step (side k) 0 s (start-side-mono tb P b i q k) (w .climbing);
+          met = w .met;
+        }
 
     -- where a value repeats in time, the jobs up to k met their deadlines
     met-more : {k s : ℕ} → Trial k s → s ≡ side k s → s + q ≤ due tb i k →
@@ -67,14 +74,16 @@ module _ (tb : Table) (P : ℕ → Bool) (b i L q : ℕ) where
         (λ z. w .met j t x (omega arith) st)
 
     -- the next job starts no sooner than C later
-    pub trial-next : {k s : ℕ} → Trial k s → s ≡ side k s → s + q ≤ due tb i k → k < jobs tb P b i L → Trial (k + 1) (s + tb .C i)
+    pub trial-next : {k s : ℕ} → Trial k s → s ≡ side k s → s + q ≤ due tb i k → k < jobs tb P b i L →
+        Trial (k + 1) (s + tb .C i)
     trial-next {k} {s} w e h g =
         record {
           low = omega arith;
           high = omega arith;
           climbing =
               from-below (k + 1) (s + tb .C i) (omega arith) (omega arith)
-              (λ t st. start-next tb P b i pos l q some most k s t (w .low) (climbing-stops (w .climbing) e) (rw add-one at st));
+              (λ t st. start-next tb P b i pos l q some most k s t (w .low) (climbing-stops (w .climbing) e)
+              (rw add-one at st));
           met = met-more w e h;
         }
 
@@ -101,6 +110,7 @@ module _ (tb : Table) (P : ℕ → Bool) (b i L q : ℕ) where
           arith,
           w .climbing .under (st .0) (omega arith) (st .1 .holds),
           x .within,
-          r .highest (k - 1) (st .0 + q) (subst (λ v. k - 1 < jobs tb P b i v) (sym same) (omega (arith, w .low, w .high)))
+          r .highest (k - 1) (st .0 + q) (subst (λ v. k - 1 < jobs tb P b i v) (sym same)
+              (omega (arith, w .low, w .high)))
               (record { start = st .0; starts = subst (λ v. Start tb P b i q v (st .0)) (sym z) (st .1); ends = refl }),
         )

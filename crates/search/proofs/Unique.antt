@@ -15,7 +15,8 @@ use Rattle.search.specs.declared.Pick.the-variants.{Taken, Nothing}
 module _ (tb : Table) (U : ℕ → Bool) (b : ℕ) (tried : ℕ → Bool) where
   -- the row that takes the rank has a passing length
   takes-not-none : {y q : ℕ} → Takes tb U b tried y q → NoneFits tb U b tried → ⊥
-  takes-not-none {y} {q} t none = none y q (t .row) (t .try) (t .shortest .low) (t .shortest .holds .0) (t .shortest .holds .1)
+  takes-not-none {y} {q} t none = none y q (t .row) (t .try) (t .shortest .low) (t .shortest .holds .0)
+      (t .shortest .holds .1)
 
   taken-same : {y z q r R S : ℕ} → y ≡ z → q ≡ r → R ≡ S → _≡_ {A = Pick} (Taken y q R) (Taken z r S)
   taken-same e f g = rw (e, f, g)
@@ -25,7 +26,8 @@ module _ (tb : Table) (U : ℕ → Bool) (b : ℕ) (tried : ℕ → Bool) where
       let t = takes-unique tb U b tried y q z r (x .0) (w .0) in
       taken-same (t .0) (t .1)
       (response-unique tb (without U z) b z r R S
-      (subst (λ l. Response tb (without U z) b z l R) (t .1) (subst (λ j. Response tb (without U j) b j q R) (t .0) (x .1))) (w .1))
+      (subst (λ l. Response tb (without U z) b z l R) (t .1)
+      (subst (λ j. Response tb (without U j) b j q R) (t .0) (x .1))) (w .1))
   picked-unique (Taken y q R) Nothing x w = absurd (takes-not-none (x .0) w)
   picked-unique Nothing (Taken z r S) x w = absurd (takes-not-none (w .0) x)
   picked-unique Nothing Nothing x w = refl

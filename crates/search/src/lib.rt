@@ -22,7 +22,8 @@ pub fn larger(a: u64, b: u64) -> u64
     a
 }
 
-// The longest length worth a try: the least of C and the best length so far less 1. A row that cannot beat the best cannot take the rank.
+// The longest length worth a try: the least of C and the best length so far less 1. A row that cannot beat the best
+// cannot take the rank.
 fn cap_of(c: u64, best: u64) -> u64
     ensures { λ r. ⌜ (best ≡ 0 → r ≡ c) × (1 ≤ best → r ≡ min c (best - 1)) ⌝ }
 {
@@ -46,8 +47,8 @@ fn next_length(low: u64, high: u64, cap: u64) -> u64
     low + (high - low) / 2
 }
 
-// The rows to try are given beside the unplaced ones. The active period, and what is asked for in its first tick, are the same for every
-// row of the level. No row is tried after one that takes the rank with length 1.
+// The rows to try are given beside the unplaced ones. The active period, and what is asked for in its first tick, are
+// the same for every row of the level. No row is tried after one that takes the rank with length 1.
 pub fn choose(rows: [Row; 32], n: usize, unplaced: u32, tried: u32, blocking: u64) -> Pick
     requires { ⌜ Searchable rows n unplaced tried blocking ⌝ }
     ensures { λ r. ⌜ Picked (tableIn rows n) (marked unplaced) blocking (marked tried) r ⌝ }
@@ -78,7 +79,8 @@ pub fn choose(rows: [Row; 32], n: usize, unplaced: u32, tried: u32, blocking: u6
         'lengths: while low < high {
             let mut k: u64 = 1;
             let mut largest: u64 = 0;
-            // The first job starts no sooner than after what the level asks for in its first tick, but for the job's own final region.
+            // The first job starts no sooner than after what the level asks for in its first tick, but for the job's
+            // own final region.
             let mut s = least - len;
             let passes = 'jobs: loop {
                 let released = (k - 1) * t;

@@ -1,5 +1,5 @@
--- Laws of the answer of `sheet`: what was read is the sheet, any two answers are equal, and a text cut behind the longest sheet has the same
--- answer.
+-- Laws of the answer of `sheet`: what was read is the sheet, any two answers are equal, and a text cut behind the
+-- longest sheet has the same answer.
 use Prim.Native.Nat.{ℕ, _*_, _≤_, _<_}
 use mathlib.Core.Path.{_≡_, refl, sym, ap, _∙_, subst}
 use mathlib.Core.Logic.{inl, ⊎-elim}
@@ -20,7 +20,8 @@ use Rattle.sheet.specs.declared.SheetRead.the-variants as read
 use Rattle.sheet.proofs.Fronts.{length-ticks, longest-sheet, sheet-length, sheet-once, front-whole, shared-bound}
 
 -- all tasks read, and the text ends
-pub reads-sheet : (s : List ℕ) (tick : ℕ) (before table : List ℕ) (r : SheetRead) → ReadsTasks s tick before table r → ReadsSheet s before table r
+pub reads-sheet : (s : List ℕ) (tick : ℕ) (before table : List ℕ) (r : SheetRead) → ReadsTasks s tick before table r →
+    ReadsSheet s before table r
 reads-sheet s tick before table (read.Whole n) h =
     let f = h .1 in
     let m = f .many in
@@ -38,14 +39,17 @@ module _ (tick : ℕ) (ts : List Task) where
   pub ticks-rows : WellFormed tick ts → Rows row-width (ticksOf tick ts)
   ticks-rows w = record { n = length ts; whole = length-ticks tick ts; some = w .some; few = w .few }
 
-  pub ticks-front : (n : ℕ) (table rest : List ℕ) → length ts ≡ n → table ≡ ticksOf tick ts ++ rest → take (row-width * n) table ≡ ticksOf tick ts
+  pub ticks-front : (n : ℕ) (table rest : List ℕ) → length ts ≡ n → table ≡ ticksOf tick ts ++ rest →
+      take (row-width * n) table ≡ ticksOf tick ts
   ticks-front n table rest e f =
-      ap (take (row-width * n)) f ∙ take-at (ticksOf tick ts) rest (row-width * n) (let l = length-ticks tick ts in omega arith)
+      ap (take (row-width * n)) f ∙ take-at (ticksOf tick ts) rest (row-width * n)
+      (let l = length-ticks tick ts in omega arith)
 
 -- any two answers are equal
 form-place : (text : List ℕ) → OnePlace (sheet-form text)
 form-place text a b h g =
-    let p = h .0 .longest b (g .0 .within) (g .0 .shared) in let q = g .0 .longest a (h .0 .within) (h .0 .shared) in omega arith
+    let p = h .0 .longest b (g .0 .within) (g .0 .shared) in let q = g .0 .longest a (h .0 .within) (h .0 .shared) in
+    omega arith
 
 ticks-unique : (ticks out : List ℕ) (r s : Result) → TicksAnswer ticks out r → TicksAnswer ticks out s → r ≡ s
 ticks-unique ticks out r s =
@@ -63,7 +67,8 @@ sheet-unique text out r s a b =
     ⊎-elim
     (λ x. ⊎-elim
     (λ y.
-    result-same r s (x .number ∙ sym (y .number)) (form-place text (r .place) (s .place) (x .place) (y .place)) (x .value ∙ sym (y .value))
+    result-same r s (x .number ∙ sym (y .number)) (form-place text (r .place) (s .place) (x .place) (y .place))
+    (x .value ∙ sym (y .value))
     (x .unwritten ∙ sym (y .unwritten)))
     (λ y. absurd (x .place .1 (y .0) (y .1) (y .2)))
     b)

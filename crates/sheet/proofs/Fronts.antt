@@ -1,4 +1,5 @@
--- Laws of the front of a sheet that has been read: it grows line by line, and where it is stuck is the place of refusal 9.
+-- Laws of the front of a sheet that has been read: it grows line by line, and where it is stuck is the place of refusal
+-- 9.
 use Prim.Native.Nat.{ℕ, suc, _+_, _*_, _≤_, _<_}
 use mathlib.Core.Path.{_≡_, refl, sym, ap, _∙_}
 use mathlib.Core.List.{List, [], _∷_, _++_, append-assoc, append-nil}
@@ -11,7 +12,8 @@ use Rattle.tables.specs.Table.{row-width, most-rows}
 use Rattle.reading.specs.Begins.{Between}
 use Rattle.reading.specs.inside.Piece.{Passed, Stuck}
 use Rattle.reading.proofs.Pieces.{code-rest}
-use Rattle.sheet.specs.Sheet.{Task, longest-tick, tickLine, taskLine, TaskWithin, taskLines, TasksWithin, WellFormed, sheetText, Sheet, Shared, LongestPrefix, rowOf, ticksOf}
+use Rattle.sheet.specs.Sheet.{Task, longest-tick, tickLine, taskLine, TaskWithin, taskLines, TasksWithin}
+use Rattle.sheet.specs.Sheet.{WellFormed, sheetText, Sheet, Shared, LongestPrefix, rowOf, ticksOf}
 use Rattle.sheet.specs.Answers.{sheet-form}
 use Rattle.sheet.specs.inside.Read.{tickPiece, taskPiece, Front}
 use Rattle.sheet.proofs.Lines.{code-tick, code-task, tick-length, task-length}
@@ -24,11 +26,14 @@ within-more (u ∷ ts) t h g = (h .0, within-more ts t (h .1) g)
 pub lines-more : (ts : List Task) (t : Task) → taskLines (ts ++ t ∷ []) ≡ taskLines ts ++ taskLine t
 unfolding taskLines
 lines-more [] t = append-nil (taskLine t)
-lines-more (u ∷ ts) t = ap (λ (l : List ℕ). taskLine u ++ l) (lines-more ts t) ∙ sym (append-assoc (taskLine u) (taskLines ts) (taskLine t))
+lines-more (u ∷ ts) t = ap (λ (l : List ℕ). taskLine u ++ l) (lines-more ts t)
+    ∙ sym (append-assoc (taskLine u) (taskLines ts) (taskLine t))
 
-pub sheet-more : (tick : ℕ) (ts : List Task) (t : Task) → sheetText tick (ts ++ t ∷ []) ≡ sheetText tick ts ++ taskLine t
+pub sheet-more : (tick : ℕ) (ts : List Task) (t : Task) →
+    sheetText tick (ts ++ t ∷ []) ≡ sheetText tick ts ++ taskLine t
 unfolding sheetText
-sheet-more tick ts t = ap (λ (l : List ℕ). tickLine tick ++ l) (lines-more ts t) ∙ sym (append-assoc (tickLine tick) (taskLines ts) (taskLine t))
+sheet-more tick ts t = ap (λ (l : List ℕ). tickLine tick ++ l) (lines-more ts t)
+    ∙ sym (append-assoc (tickLine tick) (taskLines ts) (taskLine t))
 
 pub ticks-more : (tick : ℕ) (ts : List Task) (t : Task) → ticksOf tick (ts ++ t ∷ []) ≡ ticksOf tick ts ++ rowOf tick t
 unfolding ticksOf
@@ -45,7 +50,8 @@ lines-length : (ts : List Task) → TasksWithin ts → length (taskLines ts) ≤
 unfolding taskLines
 lines-length [] h = omega arith
 lines-length (t ∷ ts) h =
-    let e = lines-length ts (h .1) in let g = task-length t (h .0) .1 in omega (arith, length-append (taskLine t) (taskLines ts))
+    let e = lines-length ts (h .1) in let g = task-length t (h .0) .1 in
+    omega (arith, length-append (taskLine t) (taskLines ts))
 
 -- the first line with its four digits, and 32 lines with three numbers of ten digits each
 abbrev pub longest-sheet : ℕ
@@ -54,7 +60,12 @@ longest-sheet = 10 + 32 * 38
 pub sheet-length : (tick : ℕ) (ts : List Task) → WellFormed tick ts → length (sheetText tick ts) ≤ longest-sheet
 unfolding sheetText
 sheet-length tick ts w =
-    let f = w .few in omega (arith, length-append (tickLine tick) (taskLines ts), tick-length tick (w .tick-within), lines-length ts (w .tasks))
+    let f = w .few in omega (
+      arith,
+      length-append (tickLine tick) (taskLines ts),
+      tick-length tick (w .tick-within),
+      lines-length ts (w .tasks),
+    )
 
 -- what follows some task lines, where the whole is task lines
 pub record Rest (ts us : List Task) (x : List ℕ) : Type 0 where
@@ -63,21 +74,25 @@ pub record Rest (ts us : List Task) (x : List ℕ) : Type 0 where
   pub within : TasksWithin rest
   pub text : x ≡ taskLines rest
 
-lines-rest : (ts us : List Task) (x : List ℕ) → TasksWithin ts → TasksWithin us → taskLines ts ++ x ≡ taskLines us → Rest ts us x
+lines-rest : (ts us : List Task) (x : List ℕ) → TasksWithin ts → TasksWithin us → taskLines ts ++ x ≡ taskLines us →
+    Rest ts us x
 unfolding taskLines
 lines-rest [] us x h g e = record { rest = us; joined = refl; within = g; text = e }
 lines-rest (t ∷ ts) [] x h g e =
     absurd
     (let l = ap length e in
-    let m = task-length t (h .0) .0 in omega (arith, length-append (taskLine t ++ taskLines ts) x, length-append (taskLine t) (taskLines ts)))
+    let m = task-length t (h .0) .0 in omega
+    (arith, length-append (taskLine t ++ taskLines ts) x, length-append (taskLine t) (taskLines ts)))
 lines-rest (t ∷ ts) (u ∷ us) x h g e =
     let f = sym (append-assoc (taskLine t) (taskLines ts) x) ∙ e in
     let q = code-task t u (h .0) (g .0) (taskLines ts ++ x) (taskLines us) f in
-    let r = lines-rest ts us x (h .1) (g .1) (code-rest taskPiece code-task t u (h .0) (g .0) (taskLines ts ++ x) (taskLines us) f) in
+    let r = lines-rest ts us x (h .1) (g .1)
+    (code-rest taskPiece code-task t u (h .0) (g .0) (taskLines ts ++ x) (taskLines us) f) in
     record { rest = r .rest; joined = λ i. sym q i ∷ r .joined i; within = r .within; text = r .text }
 
 -- the same of whole sheets
-sheet-rest : (tick tock : ℕ) (ts us : List Task) (x : List ℕ) → Between longest-tick tick → Between longest-tick tock → TasksWithin ts → TasksWithin us
+sheet-rest : (tick tock : ℕ) (ts us : List Task) (x : List ℕ) → Between longest-tick tick → Between longest-tick tock →
+    TasksWithin ts → TasksWithin us
     → sheetText tick ts ++ x ≡ sheetText tock us → (tick ≡ tock) × Rest ts us x
 unfolding sheetText
 sheet-rest tick tock ts us x p q h g e =
@@ -91,7 +106,8 @@ no-lines : (vs : List Task) → TasksWithin vs → taskLines vs ≡ [] → vs �
 unfolding taskLines
 no-lines [] h e = refl
 no-lines (t ∷ vs) h e =
-    absurd (let l = ap length e in let m = task-length t (h .0) .0 in omega (arith, length-append (taskLine t) (taskLines vs)))
+    absurd (let l = ap length e in let m = task-length t (h .0) .0 in
+    omega (arith, length-append (taskLine t) (taskLines vs)))
 
 some-lines : {X : Type 0} (vs : List Task) (x : List ℕ) → TasksWithin vs → x ≡ taskLines vs → 1 ≤ length x
     → ((t : Task) (us : List Task) → TaskWithin t → x ≡ taskLine t ++ taskLines us → X) → X
@@ -109,11 +125,14 @@ empty [] h = refl
 empty (a ∷ x) h = absurd (omega arith)
 
 -- "which the bytes determine"
-pub sheet-once : (text : List ℕ) (tick tock : ℕ) (ts us : List Task) → Sheet text tick ts → Sheet text tock us → (tick ≡ tock) × (ts ≡ us)
+pub sheet-once : (text : List ℕ) (tick tock : ℕ) (ts us : List Task) → Sheet text tick ts → Sheet text tock us →
+    (tick ≡ tock) × (ts ≡ us)
 sheet-once text tick tock ts us p q =
     let r =
-    sheet-rest tick tock ts us [] (p .formed .tick-within) (q .formed .tick-within) (p .formed .tasks) (q .formed .tasks)
-    (append-nil (sheetText tick ts) ∙ sym (p .bytes) ∙ q .bytes) in (r .0, sym (append-nil ts) ∙ whole (r .1 .rest) (r .1 .within) (r .1 .text) ∙ sym (r .1 .joined))
+    sheet-rest tick tock ts us [] (p .formed .tick-within) (q .formed .tick-within) (p .formed .tasks)
+    (q .formed .tasks)
+    (append-nil (sheetText tick ts) ∙ sym (p .bytes) ∙ q .bytes) in
+    (r .0, sym (append-nil ts) ∙ whole (r .1 .rest) (r .1 .within) (r .1 .text) ∙ sym (r .1 .joined))
   where
     whole : (vs : List Task) → TasksWithin vs → [] ≡ taskLines vs → ts ++ [] ≡ ts ++ vs
     whole vs h e = ap (λ (l : List Task). ts ++ l) (sym (no-lines vs h (sym e)))
@@ -139,7 +158,8 @@ longest-here text place h s none =
     record {
       within = h;
       shared = s;
-      longest = λ m l g. by-le m place (λ q. q) (λ q. absurd (none (omega arith) (shared-less text (suc place) m (omega arith) g)));
+      longest = λ m l g. by-le m place (λ q. q)
+          (λ q. absurd (none (omega arith) (shared-less text (suc place) m (omega arith) g)));
     }
 
 -- a task that may follow anything
@@ -184,22 +204,26 @@ module _ (text : List ℕ) (tick : ℕ) (ts : List Task) (at : ℕ) (f : Front t
       ∙ take-append-add (sheetText tick ts) (drop at text) m
 
   -- a sheet that begins as far as that goes on with task lines
-  beyond : (m tock : ℕ) (us : List Task) (rest : List ℕ) → WellFormed tock us → take (at + m) text ++ rest ≡ sheetText tock us
+  beyond : (m tock : ℕ) (us : List Task) (rest : List ℕ) → WellFormed tock us →
+      take (at + m) text ++ rest ≡ sheetText tock us
       → Rest ts us (take m (drop at text) ++ rest)
   beyond m tock us rest w e =
       sheet-rest tick tock ts us (take m (drop at text) ++ rest) (f .tick-within) (w .tick-within) (f .tasks) (w .tasks)
-      (sym (append-assoc (sheetText tick ts) (take m (drop at text)) rest) ∙ ap (λ (l : List ℕ). l ++ rest) (sym (seen m)) ∙ e)
+      (sym (append-assoc (sheetText tick ts) (take m (drop at text)) rest)
+      ∙ ap (λ (l : List ℕ). l ++ rest) (sym (seen m)) ∙ e)
       .1
 
   whole-rest : (tock : ℕ) (us : List Task) → Sheet text tock us → Rest ts us (drop at text)
   whole-rest tock us g =
-      sheet-rest tick tock ts us (drop at text) (f .tick-within) (g .formed .tick-within) (f .tasks) (g .formed .tasks) (sym (f .split) ∙ g .bytes) .1
+      sheet-rest tick tock ts us (drop at text) (f .tick-within) (g .formed .tick-within) (f .tasks) (g .formed .tasks)
+      (sym (f .split) ∙ g .bytes) .1
 
   left : length (drop at text) + at ≡ length text
   left = let w = f .within in omega (arith, length-drop at text)
 
   -- one line more
-  pub front-more : (t : Task) (next : ℕ) → length ts < most-rows → Passed taskPiece text at t next → Front text tick (ts ++ t ∷ []) next
+  pub front-more : (t : Task) (next : ℕ) → length ts < most-rows → Passed taskPiece text at t next →
+      Front text tick (ts ++ t ∷ []) next
   front-more t next few p =
       record {
         tick-within = f .tick-within;
@@ -219,7 +243,8 @@ module _ (text : List ℕ) (tick : ℕ) (ts : List Task) (at : ℕ) (f : Front t
       }
 
   -- stuck in a task line, the first or one behind which the text goes on
-  pub front-stuck : (place : ℕ) → length ts < most-rows → (1 ≤ length ts → at < length text) → Stuck taskPiece text at place → sheet-form text .hits place
+  pub front-stuck : (place : ℕ) → length ts < most-rows → (1 ≤ length ts → at < length text) →
+      Stuck taskPiece text at place → sheet-form text .hits place
   front-stuck place few more h =
       let s = h .stops in
       let p = h .ahead in
@@ -243,10 +268,16 @@ module _ (text : List ℕ) (tick : ℕ) (ts : List Task) (at : ℕ) (f : Front t
           ),
         )
             (λ l g.
-            let r = beyond (suc p) (g .0) (g .1) (g .3 .0) (g .2) (ap (λ (n : ℕ). take n text ++ g .3 .0) (add-suc at p) ∙ g .3 .1) in
+            let r = beyond (suc p) (g .0) (g .1) (g .3 .0) (g .2)
+            (ap (λ (n : ℕ). take n text ++ g .3 .0) (add-suc at p) ∙ g .3 .1) in
             let m : p < length (drop at text) = omega (arith, left) in
             some-lines (r .rest) (take (suc p) (drop at text) ++ g .3 .0) (r .within) (r .text)
-            (omega (arith, length-append (take (suc p) (drop at text)) (g .3 .0), length-take-le (suc p) (drop at text) m))
+            (omega (
+              arith,
+              length-append (take (suc p) (drop at text)) (g .3 .0),
+              length-take-le (suc p) (drop at text)
+                  m,
+            ))
             (λ t us ht e. s .no-more m t ht (taskLines us) (g .3 .0, e))),
         λ tock us g.
             let r = whole-rest tock us g in
@@ -256,7 +287,8 @@ module _ (text : List ℕ) (tick : ℕ) (ts : List Task) (at : ℕ) (f : Front t
             let k = ap length (no-lines (r .rest) (r .within) (sym (r .text) ∙ empty (drop at text) z)) in
             let o = g .formed .some in
             let l = more (omega (arith, length-append ts (r .rest))) in omega (arith, left))
-            (λ z. some-lines (r .rest) (drop at text) (r .within) (r .text) z (λ t vs ht e. s .no-text t ht (taskLines vs) e)),
+            (λ z. some-lines (r .rest) (drop at text) (r .within) (r .text) z
+            (λ t vs ht e. s .no-text t ht (taskLines vs) e)),
       )
 
   -- 32 task lines, and the text goes on
@@ -269,9 +301,16 @@ module _ (text : List ℕ) (tick : ℕ) (ts : List Task) (at : ℕ) (f : Front t
       ([], ap (λ (l : List ℕ). l ++ []) (at-front) ∙ append-nil (sheetText tick ts)),
     )
         (λ l g.
-        let r = beyond 1 (g .0) (g .1) (g .3 .0) (g .2) (ap (λ (n : ℕ). take n text ++ g .3 .0) (let q : at + 1 ≡ suc at = omega arith in q) ∙ g .3 .1) in
+        let r = beyond 1 (g .0) (g .1) (g .3 .0) (g .2)
+        (ap (λ (n : ℕ). take n text ++ g .3 .0) (let q : at + 1 ≡ suc at = omega arith in q) ∙ g .3 .1) in
         over (g .1) (g .2 .few) (take 1 (drop at text) ++ g .3 .0) r
-        (omega (arith, left, length-append (take 1 (drop at text)) (g .3 .0), length-take-le 1 (drop at text) (omega (arith, left))))),
+        (omega (
+          arith,
+          left,
+          length-append (take 1 (drop at text)) (g .3 .0),
+          length-take-le 1 (drop at text)
+              (omega (arith, left)),
+        ))),
     λ tock us g. over us (g .formed .few) (drop at text) (whole-rest tock us g) (omega (arith, left)),
   )
     where
@@ -288,7 +327,8 @@ module _ (text : List ℕ) (tick : ℕ) (ts : List Task) (at : ℕ) (f : Front t
   front-whole e some =
       record {
         formed = record { tick-within = f .tick-within; some = some; few = f .few; tasks = f .tasks };
-        bytes = f .split ∙ ap (λ (l : List ℕ). sheetText tick ts ++ l) (drop-of-length-le text {i = at} (omega arith)) ∙ append-nil (sheetText tick ts);
+        bytes = f .split ∙ ap (λ (l : List ℕ). sheetText tick ts ++ l) (drop-of-length-le text {i = at} (omega arith))
+            ∙ append-nil (sheetText tick ts);
       }
 
 -- the first line

@@ -12,7 +12,8 @@ use Rattle.reading.specs.inside.Piece.{Piece, wordPiece, numberPiece, both, Pas
 use Rattle.reading.specs.inside.Read.{ReadsNumber}
 use Rattle.reading.specs.declared.NumberRead.{NumberRead}
 use Rattle.reading.specs.declared.NumberRead.the-variants as number
-use Rattle.reading.proofs.Pieces.{Code, code-word, code-both, stuck-second, passed-both, Alike, alike-stuck, alike-passed, alike-code}
+use Rattle.reading.proofs.Pieces.{Code, code-word, code-both, stuck-second, passed-both, Alike, alike-stuck}
+use Rattle.reading.proofs.Pieces.{alike-passed, alike-code}
 use Rattle.reading.proofs.Numbers.{code-number}
 use Rattle.sheet.specs.Sheet.{Task, longest-tick, longest-time, tickLine, taskLine, TaskWithin}
 use Rattle.sheet.specs.inside.Read.{tickPiece, timesPiece, taskPiece, ReadsTick, ReadsTimes, ReadsTask}
@@ -41,7 +42,8 @@ tick-alike =
 pub code-tick : Code tickPiece
 code-tick =
     alike-code tick-alike (λ v w e. ap (λ (p : tickParts .Value). p .1) e)
-    (code-both (wordPiece (word "tick ")) (numberPiece longest-tick 10) (code-word (word "tick ")) (code-number 10 (omega arith) longest-tick))
+    (code-both (wordPiece (word "tick ")) (numberPiece longest-tick 10) (code-word (word "tick "))
+    (code-number 10 (omega arith) longest-tick))
 
 -- a task line is a word and three numbers
 abbrev pub taskParts : Piece
@@ -69,7 +71,8 @@ pub code-times : Code timesPiece
 code-times =
     code-both (numberPiece longest-time 32) (both (numberPiece longest-time 32) (numberPiece longest-time 10))
     code-spaced
-    (code-both (numberPiece longest-time 32) (numberPiece longest-time 10) code-spaced (code-number 10 (omega arith) longest-time))
+    (code-both (numberPiece longest-time 32) (numberPiece longest-time 10) code-spaced
+    (code-number 10 (omega arith) longest-time))
 
 pub code-task : Code taskPiece
 code-task =
@@ -88,7 +91,8 @@ task-length t h =
     let c = h .C .high in
     let d = h .D .high in
     let s = h .T .high in
-    let e : length (taskLine t) ≡ length (decimal (t .C)) + length (decimal (t .D)) + length (decimal (t .T)) + 8 = simp length-append (omega arith) in (
+    let e : length (taskLine t) ≡ length (decimal (t .C)) + length (decimal (t .D)) + length (decimal (t .T)) + 8 =
+    simp length-append (omega arith) in (
       omega arith,
       omega (arith, few 9 (t .C) (omega arith), few 9 (t .D) (omega arith), few 9 (t .T) (omega arith)),
     )
@@ -104,13 +108,17 @@ pub one-tick : Between longest-tick 1
 one-tick = one-within (omega arith)
 
 -- a word read, and what is read behind it
-pub reads-tick : (s : List ℕ) (m : ℕ) (r : NumberRead) → Passed (wordPiece (word "tick ")) s 0 tt m → ReadsNumber longest-tick 10 s m r → ReadsTick s r
+pub reads-tick : (s : List ℕ) (m : ℕ) (r : NumberRead) → Passed (wordPiece (word "tick ")) s 0 tt m →
+    ReadsNumber longest-tick 10 s m r → ReadsTick s r
 reads-tick s m (number.Past tick next) f h =
     alike-passed tick-alike (passed-both (wordPiece (word "tick ")) (numberPiece longest-tick 10) f h)
 reads-tick s m (number.Stuck place) f h =
-    alike-stuck tick-alike (stuck-second (wordPiece (word "tick ")) (numberPiece longest-tick 10) (code-word (word "tick ")) f h)
+    alike-stuck tick-alike (stuck-second (wordPiece (word "tick ")) (numberPiece longest-tick 10)
+    (code-word (word "tick ")) f h)
 
-pub reads-task : (s : List ℕ) (at m : ℕ) (r : LineRead) → Passed (wordPiece (word "task ")) s at tt m → ReadsTimes s m r → ReadsTask s at r
-reads-task s at m (line.Past t next) f h = alike-passed task-alike (passed-both (wordPiece (word "task ")) timesPiece f h)
+pub reads-task : (s : List ℕ) (at m : ℕ) (r : LineRead) → Passed (wordPiece (word "task ")) s at tt m →
+    ReadsTimes s m r → ReadsTask s at r
+reads-task s at m (line.Past t next) f h = alike-passed task-alike
+    (passed-both (wordPiece (word "task ")) timesPiece f h)
 reads-task s at m (line.Stuck place) f h =
     alike-stuck task-alike (stuck-second (wordPiece (word "task ")) timesPiece (code-word (word "task ")) f h)

@@ -26,9 +26,11 @@ filled (x ∷ y ∷ z ∷ []) a b c h = refl
 filled (x ∷ y ∷ z ∷ w ∷ l) a b c h = absurd (omega arith)
 
 -- one row more behind those of n tasks
-pub row-more : (tick n : ℕ) (ts : List Task) (t : Task) (before table row : List ℕ) → length ts ≡ n → table ≡ ticksOf tick ts ++ drop (row-width * n) before
+pub row-more : (tick n : ℕ) (ts : List Task) (t : Task) (before table row : List ℕ) → length ts ≡ n →
+    table ≡ ticksOf tick ts ++ drop (row-width * n) before
     → row ≡ rowOf tick t
-    → putMid (row-width * n) (row-width * n + 3 - row-width * n) table row ≡ ticksOf tick (ts ++ t ∷ []) ++ drop (row-width * (n + 1)) before
+    → putMid (row-width * n) (row-width * n + 3 - row-width * n) table row ≡ ticksOf tick (ts ++ t ∷ [])
+    ++ drop (row-width * (n + 1)) before
 row-more tick n ts t before table row e f g =
     let k : row-width * n + 3 - row-width * n ≡ 3 = omega arith in
     let m : row-width * n + 3 ≡ row-width * (n + 1) = omega arith in
@@ -37,7 +39,8 @@ row-more tick n ts t before table row e f g =
     ∙ ap (λ (o : List ℕ). putMid (row-width * n) 3 o row) f
     ∙ ap (putMid (row-width * n) 3 (ticksOf tick ts ++ drop (row-width * n) before)) g
     ∙ behind (ticksOf tick ts) (drop (row-width * n) before) (rowOf tick t) (row-width * n) 3 long
-    ∙ ap (λ (o : List ℕ). (ticksOf tick ts ++ rowOf tick t) ++ o) (drop-drop 3 (row-width * n) before ∙ ap (λ (w : ℕ). drop w before) m)
+    ∙ ap (λ (o : List ℕ). (ticksOf tick ts ++ rowOf tick t) ++ o)
+    (drop-drop 3 (row-width * n) before ∙ ap (λ (w : ℕ). drop w before) m)
     ∙ ap (λ (o : List ℕ). o ++ drop (row-width * (n + 1)) before) (sym (ticks-more tick ts t))
   where
     behind : (p r ys : List ℕ) (a k : ℕ) → length p ≡ a → putMid a k (p ++ r) ys ≡ (p ++ ys) ++ drop k r

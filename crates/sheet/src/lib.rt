@@ -15,7 +15,8 @@ ghost use Rattle.tables.specs.Answer.{resultOf};
 ghost use Rattle.reading.specs.Begins.{Between};
 ghost use Rattle.sheet.specs.Sheet.{longest-tick, TaskWithin, rowOf};
 ghost use Rattle.sheet.specs.Answers.{TicksAnswer, SheetAnswer};
-ghost use Rattle.sheet.specs.inside.Read.{taskOf, ReadsTick, ReadsTimes, ReadsTask, Front, ReadsTasks, ReadsSheet};
+ghost use Rattle.sheet.specs.inside.Read.{taskOf, ReadsTick, ReadsTimes, ReadsTask, Front, ReadsTasks};
+ghost use Rattle.sheet.specs.inside.Read.{ReadsSheet};
 
 // What a line `task C D T` says, in microseconds.
 pub struct Times {
@@ -145,7 +146,8 @@ fn read_sheet(text: &[u8], table: &mut [u32]) -> SheetRead
 // The numbers to the front of the output.
 fn put_front(numbers: &[u32], out: &mut [u32])
     requires { ⌜ length (now numbers) ≤ length (now out) ⌝ }
-    ensures { λ _. ⌜ now (out .exit) ≡ now (numbers .entry) ++ drop (length (now (numbers .entry))) (now (out .entry)) ⌝ }
+    ensures { λ _. ⌜ now (out .exit) ≡ now (numbers .entry) ++ drop (length (now (numbers .entry)))
+        (now (out .entry)) ⌝ }
 {
     let mut i: usize = 0;
     while i < numbers.len() {

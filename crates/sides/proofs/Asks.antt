@@ -1,4 +1,5 @@
--- Laws of what the rows ask with: two stores a row, and that a right side, a period, a start and a response read nothing else.
+-- Laws of what the rows ask with: two stores a row, and that a right side, a period, a start and a response read
+-- nothing else.
 use Prim.Native.Nat.{ℕ, _+_, _*_, _<_, _≤_}
 use mathlib.Core.Path.{_≡_, sym, ap, _∙_, fun-ext, subst, refl}
 use mathlib.Core.Bool.{Bool}
@@ -23,7 +24,8 @@ pub stored-more : (rows : List Row) (asks : List ℕ) (i : ℕ) → i < 32 → S
     Stored rows (set (set asks (2 * i) (getD rows i no .c)) (2 * i + 1) (getD rows i no .t)) (i + 1)
 stored-more rows asks i l w =
     record {
-      whole = length-set (set asks (2 * i) (getD rows i no .c)) (2 * i + 1) (getD rows i no .t) ∙ length-set asks (2 * i) (getD rows i no .c) ∙ w .whole;
+      whole = length-set (set asks (2 * i) (getD rows i no .c)) (2 * i + 1) (getD rows i no .t)
+          ∙ length-set asks (2 * i) (getD rows i no .c) ∙ w .whole;
       runs =
           λ k h. getD-set-other run (2 * i + 1) (2 * k) t 0 (λ e. omega arith)
           ∙ by-eq k i

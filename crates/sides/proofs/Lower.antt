@@ -1,4 +1,5 @@
--- Where the iterations may begin: what a level asks for in the first tick passes neither its active period nor the first job's finish.
+-- Where the iterations may begin: what a level asks for in the first tick passes neither its active period nor the
+-- first job's finish.
 use Prim.Native.Nat.{ℕ, suc, _+_, _≤_, _<_}
 use mathlib.Core.Bool.{Bool}
 use native.Mathlib.Omega.{arith}

@@ -23,7 +23,8 @@ module _ (tb : Table) (set t : ℕ) where
   pub walked-none : ((j : ℕ) → marked set j ≡ true → j < tb .n) → Walked 0 set
   walked-none inside = record { total = omega arith; inside = inside }
 
-  pub walked-more : {sum rest j r : ℕ} → Walked sum rest → Next rest j → Less rest j r → Walked (sum + before t (tb .T j) * tb .C j) r
+  pub walked-more : {sum rest j r : ℕ} → Walked sum rest → Next rest j → Less rest j r →
+      Walked (sum + before t (tb .T j) * tb .C j) r
   walked-more {sum} {rest} {j} {r} w n l =
       record {
         total =

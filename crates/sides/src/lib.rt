@@ -60,7 +60,8 @@ pub fn active_side(asks: &[u32; 64], n: usize, above: u32, b: u64, i: usize, t: 
     b + counting::round_up(t, asks[at + 1] as u64) * (asks[at] as u64) + load(asks, n, above, t)
 }
 
-// The right side of the start of job k of row i with blocking b and length q. Floor plus one is rounding up one tick later.
+// The right side of the start of job k of row i with blocking b and length q. Floor plus one is rounding up one tick
+// later.
 pub fn start_side(
     asks: &[u32; 64],
     n: usize,

@@ -37,7 +37,8 @@ pub fn busy_period(rows: [Row; 32], n: usize) -> Busy
 
 // The active period of row i with blocking b, the rows of the set above it, climbed to from below.
 pub fn active_period(asks: &[u32; 64], n: usize, above: u32, b: u64, i: usize, low: u64) -> u64
-    requires { ⌜ Level (now asks) n above × (b ≤ horizon) × (i < n) × ActiveWithin (askingIn (now asks) n) (marked above) b i low ⌝ }
+    requires { ⌜ Level (now asks) n above × (b ≤ horizon) × (i < n) × ActiveWithin (askingIn (now asks) n)
+        (marked above) b i low ⌝ }
     ensures { λ r. ⌜ Active (askingIn (now (asks .entry)) n) (marked above) b i r ⌝ }
 {
     let mut t = low;

@@ -14,7 +14,8 @@ use Rattle.tables.specs.Table.{Table, Sound, tableOf, row-width, most-rows, mos
 use Rattle.tables.specs.Plan.{Plan, WellFormed, planOf, plan-width}
 use Rattle.tables.specs.Jobs.{Jobs, jobsOf, job-width, most-jobs, last-release}
 use Rattle.tables.specs.Refusal.{Clear}
-use Rattle.tables.specs.Checks.{Rows, shape, range, plan-form, RowAtFault, jobs-shape, job-rules, BreaksAlone, BreaksAgainst}
+use Rattle.tables.specs.Checks.{Rows, shape, range, plan-form, RowAtFault, jobs-shape, job-rules, BreaksAlone}
+use Rattle.tables.specs.Checks.{BreaksAgainst}
 use Rattle.tables.proofs.Clear.{shape-of-rows, range-of-within, sound-of-clear, plan-of-clear}
 use Rattle.starred.proofs.Trials.{implies, implies-at}
 
@@ -86,7 +87,11 @@ row-clear tb p i e fault =
     (not-true _ (all-at (λ j. not (eqb (p .rank j) (p .rank i))) i (and-right ranks earlier a) (twice .0) (twice .1)))
     (eq-eqb (p .rank (twice .0)) (p .rank i) (twice .2)))
     rank)
-    (λ len. len (leb-true 1 (p .len i) (and-left (leb 1 (p .len i)) _ b), leb-true (p .len i) (tb .C i) (and-right (leb 1 (p .len i)) _ b)))
+    (λ len. len (
+      leb-true 1 (p .len i) (and-left (leb 1 (p .len i)) _ b),
+      leb-true (p .len i) (tb .C i)
+          (and-right (leb 1 (p .len i)) _ b),
+    ))
     fault
 
 unfoldable pub plan-test : Table → List ℕ → Bool
@@ -100,7 +105,8 @@ module _ (tb : Table) (ps : List ℕ) (e : plan-test tb ps ≡ true) where
       let whole = eqb (length ps) (plan-width * tb .n) in
       ⊎-elim
       (λ a. a .1 (eqb-true (length ps) (plan-width * tb .n) (and-left whole _ e)))
-      (λ a. row-clear tb (planOf ps) place (all-at (row-test tb (planOf ps)) (tb .n) (and-right whole _ e) place (a .1 .holds .0)) (a .1 .holds .1))
+      (λ a. row-clear tb (planOf ps) place (all-at (row-test tb (planOf ps)) (tb .n) (and-right whole _ e) place
+      (a .1 .holds .0)) (a .1 .holds .1))
       h
 
   pub plan-well : WellFormed tb (planOf ps)
@@ -132,13 +138,18 @@ against-clear : (tb : Table) (js : Jobs) (k l : ℕ) → against-test tb js k l 
 unfolding against-test
 against-clear tb js k l e breaks =
     ⊎-elim
-    (λ falls. omega (arith, leb-true (js .release l) (js .release k) (and-left (leb (js .release l) (js .release k)) _ e)))
+    (λ falls. omega (
+      arith,
+      leb-true (js .release l) (js .release k)
+          (and-left (leb (js .release l) (js .release k)) _ e),
+    ))
     (λ close.
     omega (
       arith,
       close .1,
       leb-true (js .release l + tb .T (js .row l)) (js .release k)
-          (implies-at (eqb (js .row l) (js .row k)) _ (and-right (leb (js .release l) (js .release k)) _ e) (eq-eqb (js .row l) (js .row k) (close .0))),
+          (implies-at (eqb (js .row l) (js .row k)) _ (and-right (leb (js .release l) (js .release k)) _ e)
+          (eq-eqb (js .row l) (js .row k) (close .0))),
     ))
     breaks
 
@@ -166,9 +177,11 @@ module _ (tb : Table) (js : List ℕ) (e : jobs-test tb js ≡ true) where
   unfolding jobs-test
   job-rules-clear place h =
       let J = jobsOf js in
-      let t = all-at (λ k. alone-test tb J k && all (against-test tb J k) k) (J .N) (and-right front _ e) place (h .holds .0) in
+      let t = all-at (λ k. alone-test tb J k && all (against-test tb J k) k) (J .N) (and-right front _ e) place
+      (h .holds .0) in
       ⊎-elim
       (λ alone. alone-clear tb J place (and-left (alone-test tb J place) _ t) alone)
       (λ pair.
-      against-clear tb J place (pair .0) (all-at (against-test tb J place) place (and-right (alone-test tb J place) _ t) (pair .0) (pair .1)) (pair .2))
+      against-clear tb J place (pair .0) (all-at (against-test tb J place) place (and-right (alone-test tb J place) _ t)
+      (pair .0) (pair .1)) (pair .2))
       (h .holds .1)

@@ -1,4 +1,5 @@
--- The starred figures are right: a test of each figure that the checker computes, and the proof that what it passes is right.
+-- The starred figures are right: a test of each figure that the checker computes, and the proof that what it passes is
+-- right.
 use Prim.Native.Nat.{ℕ, suc, pred, _+_, _-_, _*_, _<_}
 use mathlib.Core.Path.{_≡_, refl, sym, _∙_}
 use mathlib.Core.Bool.{Bool, true, false, _&&_}
@@ -22,10 +23,15 @@ use Rattle.test.proofs.Plans.{plan-bounded}
 use Rattle.choice.proofs.Filled.{chosen-not-stopped}
 use Rattle.choice.specs.Answers.{plannedOf, responseIn, planned-width}
 use Rattle.kernel.specs.Rule.{one-of, pick, executed, Finishes}
-use Rattle.starred.specs.Figures.{Figure, plans, refuses, timed, plays, takes, shortest, Right, AllRight, figures, further, StarredFigures}
-use Rattle.starred.proofs.Seen.{look, seen, busy-seen, passes-h, overloaded, overloaded-none, period, start, value, start-seen, no-higher, as-high, highest-job, responds, responds-is, taken}
-use Rattle.starred.proofs.Trials.{implies, known, passing, short, trials-known, comes-after, takes-test, none-test, once-test, filled-test, filled-is, stopped-test, stopped-is, shortest-test, shortest-is}
-use Rattle.starred.proofs.Clears.{table-test, table-whole, table-sound, shape-clear, range-clear, plan-test, plan-well, plan-clear, jobs-test, jobs-shape-clear, job-rules-clear}
+use Rattle.starred.specs.Figures.{Figure, plans, refuses, timed, plays, takes, shortest, Right, AllRight, figures}
+use Rattle.starred.specs.Figures.{further, StarredFigures}
+use Rattle.starred.proofs.Seen.{look, seen, busy-seen, passes-h, overloaded, overloaded-none, period, start}
+use Rattle.starred.proofs.Seen.{value, start-seen, no-higher, as-high, highest-job, responds, responds-is, taken}
+use Rattle.starred.proofs.Trials.{implies, known, passing, short, trials-known, comes-after, takes-test}
+use Rattle.starred.proofs.Trials.{none-test, once-test, filled-test, filled-is, stopped-test, stopped-is}
+use Rattle.starred.proofs.Trials.{shortest-test, shortest-is}
+use Rattle.starred.proofs.Clears.{table-test, table-whole, table-sound, shape-clear, range-clear, plan-test}
+use Rattle.starred.proofs.Clears.{plan-well, plan-clear, jobs-test, jobs-shape-clear, job-rules-clear}
 
 -- row i of a plan has the response R
 row-responds : Table → Plan → ℕ → ℕ → Bool
@@ -59,7 +65,8 @@ test (refuses xs number place) =
     && either (eqb number 4 && overloaded tb) (eqb number 5 && (seen (busy-side tb) 1 && stopped-test tb))
 test (timed xs ps ys) =
     let tb = tableOf xs in
-    (plannable xs && (plan-test tb ps && eqb (length ys) (tb .n))) && all (λ i. row-responds tb (planOf ps) i (getD ys i 0)) (tb .n)
+    (plannable xs && (plan-test tb ps && eqb (length ys) (tb .n))) && all
+    (λ i. row-responds tb (planOf ps) i (getD ys i 0)) (tb .n)
 test (plays xs ps js ys) =
     let tb = tableOf xs in
     (table-test xs && (plan-test tb ps && (jobs-test tb js && eqb (length ys) (jobsOf js .N))))
@@ -126,7 +133,9 @@ module _ (xs ys : List ℕ) where
                         record {
                           many = whole;
                           chosen = chosen;
-                          responses = λ i l. responds-is tb _ _ i _ _ (all-at (λ i. row-responds tb (plannedOf ys) i (responseIn ys i)) (tb .n) (and-right filled _ b) i l);
+                          responses = λ i l. responds-is tb _ _ i _ _
+                              (all-at (λ i. row-responds tb (plannedOf ys) i (responseIn ys i)) (tb .n)
+                              (and-right filled _ b) i l);
                           whole = sym same;
                           rest = no-rest out ys (planned-width * tb .n) same whole;
                         };
@@ -138,7 +147,8 @@ module _ (xs ys : List ℕ) where
         )
 
 -- a refusal of planning
-right-refuses : (xs : List ℕ) (number place : ℕ) → test (refuses xs number place) ≡ true → Right (refuses xs number place)
+right-refuses : (xs : List ℕ) (number place : ℕ) → test (refuses xs number place) ≡ true →
+    Right (refuses xs number place)
 unfolding test
 right-refuses xs number place e out room =
     let tb = tableOf xs in
@@ -191,7 +201,8 @@ right-timed xs ps ys e out same =
     let pt = and-left (plan-test tb ps) _ b in
     let whole = eqb-true (length ys) (tb .n) (and-right (plan-test tb ps) _ b) in
     let responses : (i : ℕ) → i < tb .n → ResponseOf tb p i (getD ys i 0) =
-    λ i l. responds-is tb _ _ i _ _ (all-at (λ i. row-responds tb p i (getD ys i 0)) (tb .n) (and-right front _ e) i l) in
+    λ i l. responds-is tb _ _ i _ _ (all-at (λ i. row-responds tb p i (getD ys i 0)) (tb .n) (and-right front _ e) i
+    l) in
     inr (
       shape-clear xs t,
       inr (
@@ -209,7 +220,8 @@ right-timed xs ps ys e out same =
                     record {
                       many = whole;
                       responses = responses;
-                      bounded = λ i l. plan-bounded tb (table-sound xs t) (busy xs ok) p (plan-well tb ps pt) i l (getD ys i 0) (responses i l);
+                      bounded = λ i l. plan-bounded tb (table-sound xs t) (busy xs ok) p (plan-well tb ps pt) i l
+                          (getD ys i 0) (responses i l);
                       whole = sym same;
                       rest = no-rest out ys (tb .n) same whole;
                     };
@@ -265,7 +277,8 @@ right-plays xs ps js ys e out same =
                   given =
                       record {
                         many = whole;
-                        finishes = λ k l. finish-is tb p J k (getD ys k 0) (all-at (λ k. finish-test tb p J k (getD ys k 0)) (J .N) (and-right front _ e) k l);
+                        finishes = λ k l. finish-is tb p J k (getD ys k 0)
+                            (all-at (λ k. finish-test tb p J k (getD ys k 0)) (J .N) (and-right front _ e) k l);
                         whole = sym same;
                         rest = no-rest out ys (J .N) same whole;
                       };
@@ -286,7 +299,8 @@ right-takes xs ps i k ticks e =
     let P = above p (p .rank i) in
     let b = blocking tb p (p .rank i) in
     let seen-start = start-seen tb P b i (p .len i) k in
-    taken tb P b i (p .len i) k (ticks + k * tb .T i) (and-left seen-start _ e) (eqb-true _ _ (and-right seen-start _ e))
+    taken tb P b i (p .len i) k (ticks + k * tb .T i) (and-left seen-start _ e)
+    (eqb-true _ _ (and-right seen-start _ e))
 
 -- a row's shortest passing length
 right-shortest : (xs ps : List ℕ) (r z q : ℕ) → test (shortest xs ps r z q) ≡ true → Right (shortest xs ps r z q)
@@ -313,7 +327,10 @@ all-right (f ∷ fs) e = (right f (and-left (test f) _ e), all-right fs (and-rig
 
 -- the checker computes the test of the whole table, and of the figures beside it
 all-figures : StarredFigures × AllRight further
-unfolding figures further every test either plannable row-responds finish-test look passes-h period start value start-seen no-higher as-high highest-job responds implies known passing short trials-known comes-after takes-test none-test once-test filled-test stopped-test shortest-test table-test plan-test jobs-test first all up sum largest count load busy-side active-side start-side longest blocking one-of pick executed
+unfolding figures further every test either plannable row-responds finish-test look passes-h period start value
+    start-seen no-higher as-high highest-job responds implies known passing short trials-known comes-after takes-test
+    none-test once-test filled-test stopped-test shortest-test table-test plan-test jobs-test first all up sum largest
+    count load busy-side active-side start-side longest blocking one-of pick executed
 all-figures = (all-right figures refl, all-right further refl)
 
 pub starred-figures : StarredFigures

@@ -52,7 +52,8 @@ passes-h f h zero x = ltb h x
 passes-h f h (suc k) x = passes-h f h k (f x)
 
 -- then no fixed point lies up to h
-pub none-up-to : (f : ℕ → ℕ) → Mono f → (lo h k x : ℕ) → Climbing f lo x → passes-h f h k x ≡ true → (t : ℕ) → Least (λ u. u ≡ f u) lo t → h < t
+pub none-up-to : (f : ℕ → ℕ) → Mono f → (lo h k x : ℕ) → Climbing f lo x → passes-h f h k x ≡ true → (t : ℕ) →
+    Least (λ u. u ≡ f u) lo t → h < t
 unfolding passes-h
 none-up-to f mono lo h zero x c e t l = omega (arith, ltb-true h x e, c .under t (l .low) (l .holds))
 none-up-to f mono lo h (suc k) x c e t l = none-up-to f mono lo h k (f x) (climbing-step f lo x mono c) e t l
@@ -103,7 +104,11 @@ module _ (tb : Table) (P : ℕ → Bool) (b i : ℕ) where
 
   finish-seen : (q k : ℕ) → start-seen q k ≡ true → Finish tb P b i q (suc k) (start q (suc k) + q)
   unfolding start start-seen
-  finish-seen q k e = record { start = start q (suc k); starts = seen-least (start-side tb P b i upto q (suc k)) 0 e; ends = refl }
+  finish-seen q k e = record {
+    start = start q (suc k);
+    starts = seen-least (start-side tb P b i upto q (suc k)) 0 e;
+    ends = refl;
+  }
 
   -- what is tested is the response
   pub responds-is : (q R : ℕ) → responds q R ≡ true → Response tb P b i q R
@@ -119,7 +124,8 @@ module _ (tb : Table) (P : ℕ → Bool) (b i : ℕ) where
       let same = eqb-true (R + j * tb .T i) (start q (suc j) + q) (first-within (as-high q R) K 0 (omega arith)) in
       record {
         period = period;
-        active = seen-least (active-side tb P b i) 1 (and-left _ (all (start-seen q) K && (all (no-higher q R) K && ltb (highest-job q R) K)) e);
+        active = seen-least (active-side tb P b i) 1
+            (and-left _ (all (start-seen q) K && (all (no-higher q R) K && ltb (highest-job q R) K)) e);
         job = j;
         counts = h;
         reached = subst (λ f. Finish tb P b i q (suc j) f) (sym same) (finish-seen q j (starts j h));

@@ -1,4 +1,5 @@
--- Tests, computed by the checker, of the choice on small tables: trials, shortest lengths, the row that takes a rank, ranks filled.
+-- Tests, computed by the checker, of the choice on small tables: trials, shortest lengths, the row that takes a rank,
+-- ranks filled.
 use Prim.Native.Nat.{ℕ, suc, _-_, _≤_, _<_}
 use mathlib.Core.Path.{_≡_, refl, subst}
 use mathlib.Core.Bool.{Bool, true, false, _&&_, _||_, not}
@@ -55,7 +56,12 @@ module _ (tb : Table) (p : Plan) (r z : ℕ) where
     unfolding passing
     fits-passing q a h f =
         le-leb (worth q) (tb .D z)
-        (omega (arith, f .within, response-unique tb U (blocking tb p r) z q (f .R) (worth q) (f .response) (known-is q a h)))
+        (omega (
+          arith,
+          f .within,
+          response-unique tb U (blocking tb p r) z q (f .R) (worth q) (f .response)
+              (known-is q a h),
+        ))
 
     passing-fits : (q : ℕ) → 1 ≤ q → q ≤ tb .C z → passing q ≡ true → Fits tb U (blocking tb p r) z q
     unfolding passing
@@ -84,7 +90,8 @@ module _ (tb : Table) (p : Plan) (r z : ℕ) where
 
     pub none-fit : tb .C z < short → (q : ℕ) → 1 ≤ q → q ≤ tb .C z → Fits tb U (blocking tb p r) z q → ⊥
     unfolding short
-    none-fit h q a g f = not-both (passing q) (first-before passing (tb .C z) 1 q a (omega arith)) (fits-passing q a g f)
+    none-fit h q a g f = not-both (passing q) (first-before passing (tb .C z) 1 q a (omega arith))
+        (fits-passing q a g f)
 
 module _ (tb : Table) (p : Plan) (r : ℕ) where
   -- every trial at rank r is known
@@ -97,7 +104,8 @@ module _ (tb : Table) (p : Plan) (r : ℕ) where
 
   -- row z does not come before row y with q
   unfoldable pub comes-after : ℕ → ℕ → ℕ → Bool
-  comes-after y q z = implies (leb (short tb p r z) (tb .C z)) (leb q (short tb p r z) && implies (ltb z y) (ltb q (short tb p r z)))
+  comes-after y q z = implies (leb (short tb p r z) (tb .C z))
+      (leb q (short tb p r z) && implies (ltb z y) (ltb q (short tb p r z)))
 
   unfoldable pub takes-test : ℕ → ℕ → Bool
   takes-test y q =
@@ -107,9 +115,11 @@ module _ (tb : Table) (p : Plan) (r : ℕ) where
   pub takes-is : (y q : ℕ) → takes-test y q ≡ true → TakesRank tb p r y q
   unfolding takes-test comes-after
   takes-is y q e =
-      let a = and-left (trials-known && (ltb y (tb .n) && (unplaced p r y && (eqb (short tb p r y) q && leb q (tb .C y))))) _ e in
+      let a = and-left (trials-known && (ltb y (tb .n)
+      && (unplaced p r y && (eqb (short tb p r y) q && leb q (tb .C y))))) _ e in
       let after = all-at (λ z. implies (unplaced p r z) (comes-after y q z)) (tb .n)
-      (and-right (trials-known && (ltb y (tb .n) && (unplaced p r y && (eqb (short tb p r y) q && leb q (tb .C y))))) _ e) in
+      (and-right (trials-known && (ltb y (tb .n) && (unplaced p r y && (eqb (short tb p r y) q && leb q (tb .C y))))) _
+      e) in
       let kn = trial-known (and-left trials-known _ a) in
       let b = and-right trials-known _ a in
       let l = ltb-true y (tb .n) (and-left (ltb y (tb .n)) _ b) in
@@ -128,7 +138,8 @@ module _ (tb : Table) (p : Plan) (r : ℕ) where
       record {
         row = l;
         try = u;
-        shortest = subst (Shortest tb (unplaced p r) (blocking tb p r) y) same (short-shortest tb p r y (kn y l u) (omega arith));
+        shortest = subst (Shortest tb (unplaced p r) (blocking tb p r) y) same
+            (short-shortest tb p r y (kn y l u) (omega arith));
         least =
             λ z m g v s.
             omega (
@@ -143,7 +154,8 @@ module _ (tb : Table) (p : Plan) (r : ℕ) where
               arith,
               short-is tb p r z (kn z w v) q s,
               ltb-true q (short tb p r z)
-                  (implies-at (ltb z y) (ltb q (short tb p r z)) (and-right (leb q (short tb p r z)) _ (order z q w v s)) (lt-ltb z y g)),
+                  (implies-at (ltb z y) (ltb q (short tb p r z))
+                  (and-right (leb q (short tb p r z)) _ (order z q w v s)) (lt-ltb z y g)),
             );
       }
 
@@ -155,7 +167,8 @@ module _ (tb : Table) (p : Plan) (r : ℕ) where
   none-is e z q l u a h f =
       none-fit tb p r z (trial-known (and-left trials-known _ e) z l u)
       (ltb-true (tb .C z) (short tb p r z)
-      (implies-at (unplaced p r z) (ltb (tb .C z) (short tb p r z)) (all-at _ (tb .n) (and-right trials-known _ e) z l) u))
+      (implies-at (unplaced p r z) (ltb (tb .C z) (short tb p r z)) (all-at _ (tb .n) (and-right trials-known _ e) z l)
+      u))
       q a h f
 
   unfoldable pub once-test : Bool
@@ -183,8 +196,10 @@ filled-is tb p r e =
           eqb-true i j
           (implies-at (ltb r (p .rank i) && eqb (p .rank i) (p .rank j)) (eqb i j)
           (all-at (λ j. implies (ltb r (p .rank i) && eqb (p .rank i) (p .rank j)) (eqb i j)) n
-          (all-at (λ i. all (λ j. implies (ltb r (p .rank i) && eqb (p .rank i) (p .rank j)) (eqb i j)) n) n once i l) j g)
-          (both (ltb r (p .rank i)) (eqb (p .rank i) (p .rank j)) (lt-ltb r (p .rank i) h) (eq-eqb (p .rank i) (p .rank j) q)));
+          (all-at (λ i. all (λ j. implies (ltb r (p .rank i) && eqb (p .rank i) (p .rank j)) (eqb i j)) n) n once i l) j
+          g)
+          (both (ltb r (p .rank i)) (eqb (p .rank i) (p .rank j)) (lt-ltb r (p .rank i) h)
+          (eq-eqb (p .rank i) (p .rank j) q)));
       left = eqb-true (count (unplaced p r) n) r (and-left (eqb (count (unplaced p r) n) r) _ b);
       takes =
           λ y l h.
@@ -223,10 +238,12 @@ stopped-is tb e =
 unfoldable pub shortest-test : Table → Plan → ℕ → ℕ → ℕ → Bool
 shortest-test tb p r z q = known tb p r z && (eqb (short tb p r z) q && leb q (tb .C z))
 
-pub shortest-is : (tb : Table) (p : Plan) (r z q : ℕ) → shortest-test tb p r z q ≡ true → Shortest tb (unplaced p r) (blocking tb p r) z q
+pub shortest-is : (tb : Table) (p : Plan) (r z q : ℕ) → shortest-test tb p r z q ≡ true →
+    Shortest tb (unplaced p r) (blocking tb p r) z q
 unfolding shortest-test
 shortest-is tb p r z q e =
     let a = and-right (known tb p r z) _ e in
     let same = eqb-true (short tb p r z) q (and-left (eqb (short tb p r z) q) _ a) in
     let cap = leb-true q (tb .C z) (and-right (eqb (short tb p r z) q) _ a) in
-    subst (Shortest tb (unplaced p r) (blocking tb p r) z) same (short-shortest tb p r z (and-left (known tb p r z) _ e) (omega arith))
+    subst (Shortest tb (unplaced p r) (blocking tb p r) z) same
+    (short-shortest tb p r z (and-left (known tb p r z) _ e) (omega arith))

@@ -35,7 +35,8 @@ wholly ys = record { number = 0; place = 0; value = length ys; out = ys }
 abbrev pub Right : Figure → Type 0
 Right (plans xs ys) = (out : List ℕ) → length out ≡ length ys → PlanAnswer xs out (wholly ys)
 Right (refuses xs number place) =
-    (out : List ℕ) → length xs ≤ length out → PlanAnswer xs out (record { number = number; place = place; value = 0; out = out })
+    (out : List ℕ) → length xs ≤ length out → PlanAnswer xs out
+    (record { number = number; place = place; value = 0; out = out })
 Right (timed xs ps ys) = (out : List ℕ) → length out ≡ length ys → TimesAnswer xs ps out (wholly ys)
 Right (plays xs ps js ys) = (out : List ℕ) → length out ≡ length ys → PlayAnswer xs ps js out (wholly ys)
 Right (takes xs ps i k ticks) =

@@ -1,4 +1,5 @@
--- What an operation's answer tells: any two results that a promise allows are equal, where each check has one place and the given answer is settled; and the number 0 is that of a given answer.
+-- What an operation's answer tells: any two results that a promise allows are equal, where each check has one place and
+-- the given answer is settled; and the number 0 is that of a given answer.
 use Prim.Native.Nat.{ℕ, _+_, _-_, _≤_}
 use mathlib.Core.Path.{_≡_, sym, ap, _∙_}
 use mathlib.Core.Bool.{Bool, true, _&&_}
@@ -33,16 +34,19 @@ AllClear (c ∷ cs) = Clear c × AllClear cs
 abbrev pub OneGiven : (ℕ → List ℕ → Type 0) → Type 0
 OneGiven Given = (v w : ℕ) (l m : List ℕ) → Given v l → Given w m → (v ≡ w) × (l ≡ m)
 
-pub result-same : (r s : Result) → r .number ≡ s .number → r .place ≡ s .place → r .value ≡ s .value → r .out ≡ s .out → r ≡ s
+pub result-same : (r s : Result) → r .number ≡ s .number → r .place ≡ s .place → r .value ≡ s .value → r .out ≡ s .out →
+    r ≡ s
 result-same r s n p v o = ext n p v o
   where
     ext : {n m p q v w : ℕ} {l k : List ℕ} → n ≡ m → p ≡ q → v ≡ w → l ≡ k →
-        _≡_ {A = Result} (record { number = n; place = p; value = v; out = l }) (record { number = m; place = q; value = w; out = k })
+        _≡_ {A = Result} (record { number = n; place = p; value = v; out = l })
+        (record { number = m; place = q; value = w; out = k })
     ext n p v o = rw (n, p, v, o)
 
 refused-same : (c : Check) (out : List ℕ) (r s : Result) → OnePlace c → Refused c out r → Refused c out s → r ≡ s
 refused-same c out r s one a b =
-    result-same r s (a .number ∙ sym (b .number)) (one (r .place) (s .place) (a .place) (b .place)) (a .value ∙ sym (b .value))
+    result-same r s (a .number ∙ sym (b .number)) (one (r .place) (s .place) (a .place) (b .place))
+    (a .value ∙ sym (b .value))
     (a .unwritten ∙ sym (b .unwritten))
 
 pub answered-unique : (cs : List Check) (Given : ℕ → List ℕ → Type 0) (out : List ℕ) (r s : Result) →
@@ -52,10 +56,7 @@ answered-unique [] Given out r s one given a b =
     result-same r s (a .number ∙ sym (b .number)) (a .place ∙ sym (b .place)) (g .0) (g .1)
 answered-unique (c ∷ cs) Given out r s one given a b =
     ⊎-elim
-    (λ x. ⊎-elim
-    (λ y. refused-same c out r s (one .0) x y)
-    (λ y. absurd (y .0 (r .place) (x .place)))
-    b)
+    (λ x. ⊎-elim (λ y. refused-same c out r s (one .0) x y) (λ y. absurd (y .0 (r .place) (x .place))) b)
     (λ x. ⊎-elim
     (λ y. absurd (x .0 (s .place) (y .place)))
     (λ y. answered-unique cs Given out r s (one .1) (λ clear. given (x .0, clear)) (x .1) (y .1))
@@ -68,7 +69,8 @@ numbered [] = true
 numbered (c ∷ cs) = leb 1 (c .number) && numbered cs
 
 -- so an answer with the number 0 is given, and no check hits
-pub granted : (cs : List Check) (Given : ℕ → List ℕ → Type 0) (out : List ℕ) (r : Result) → numbered cs ≡ true → r .number ≡ 0 →
+pub granted : (cs : List Check) (Given : ℕ → List ℕ → Type 0) (out : List ℕ) (r : Result) → numbered cs ≡ true →
+    r .number ≡ 0 →
     Answered cs Given out r → AllClear cs × Granted Given r
 granted [] Given out r some zero a = (tt, a)
 granted (c ∷ cs) Given out r some zero a =

@@ -11,7 +11,8 @@ use Rattle.tables.specs.Table.{Table, Within, Sound, row-width, most-row
 use Rattle.tables.specs.Plan.{Plan, WellFormed, plan-width, cap, planOf}
 use Rattle.tables.specs.Jobs.{Jobs, WellFormedJobs, job-width, most-jobs, last-release, jobsOf}
 use Rattle.tables.specs.Refusal.{Clear}
-use Rattle.tables.specs.Checks.{Rows, RowAtFault, shape, range, plan-form, BreaksAlone, BreaksAgainst, jobs-shape, job-rules}
+use Rattle.tables.specs.Checks.{Rows, RowAtFault, shape, range, plan-form, BreaksAlone, BreaksAgainst, jobs-shape}
+use Rattle.tables.specs.Checks.{job-rules}
 
 -- an order and an equation that are not refuted
 not-not-le : (a b : ℕ) → ((a ≤ b → ⊥) → ⊥) → a ≤ b
@@ -38,11 +39,16 @@ no-least {E} none t = below (suc t) t (omega arith)
 pub rows-of-shape : (xs : List ℕ) → Clear (shape xs) → Rows row-width xs
 rows-of-shape xs clear =
     let n = length xs / row-width in
-    let whole : length xs ≡ row-width * n = not-not-eq (length xs) (row-width * n) (λ h. clear 0 (refl, λ r. h (at r))) in
+    let whole : length xs ≡ row-width * n = not-not-eq (length xs) (row-width * n)
+    (λ h. clear 0 (refl, λ r. h (at r))) in
     record {
       n = n;
       whole = whole;
-      some = not-not-le 1 n (λ h. clear 0 (refl, λ r. h (let e = at r in let f = r .whole in let g = r .some in omega arith)));
+      some = not-not-le 1 n (λ h. clear 0 (
+        refl,
+        λ r. h
+            (let e = at r in let f = r .whole in let g = r .some in omega arith),
+      ));
       few = not-not-le n most-rows (λ h. clear 0 (refl, λ r. h (let f = r .whole in let g = r .few in omega arith)));
     }
   where
@@ -79,9 +85,13 @@ sound-of-clear xs s r =
       T = λ i h. within-of-range xs r (row-width * i + 2) (omega arith);
     }
 
-pub clear-of-sound : (xs : List ℕ) → length xs ≡ row-width * tableOf xs .n → Sound (tableOf xs) → Clear (shape xs) × Clear (range xs)
-clear-of-sound xs whole s =
-    (shape-of-rows xs (record { n = tableOf xs .n; whole = whole; some = s .some; few = s .few }), range-of-within xs within)
+pub clear-of-sound : (xs : List ℕ) → length xs ≡ row-width * tableOf xs .n → Sound (tableOf xs) →
+    Clear (shape xs) × Clear (range xs)
+clear-of-sound xs whole s = (
+  shape-of-rows xs (record { n = tableOf xs .n; whole = whole; some = s .some; few = s .few }),
+  range-of-within xs
+      within,
+)
   where
     within : (i : ℕ) → i < length xs → Within (getD xs i 0)
     within i h =
@@ -94,7 +104,8 @@ clear-of-sound xs whole s =
         (λ d. let e : i ≡ row-width * r + 2 = omega arith in rw (← e) at (s .T r l)))
 
 -- a plan that the check 6 does not refuse is well formed
-pub plan-of-clear : (tb : Table) (ps : List ℕ) → Clear (plan-form tb ps) → (length ps ≡ plan-width * tb .n) × WellFormed tb (planOf ps)
+pub plan-of-clear : (tb : Table) (ps : List ℕ) → Clear (plan-form tb ps) →
+    (length ps ≡ plan-width * tb .n) × WellFormed tb (planOf ps)
 plan-of-clear tb ps clear = (
   whole,
   record {
@@ -118,7 +129,8 @@ plan-of-clear tb ps clear = (
     none : (i : ℕ) → i < tb .n → RowAtFault tb p i → ⊥
     none i h f = no-least (λ t l. clear t (inr (whole, l))) i (h, f)
 
-pub clear-of-plan : (tb : Table) (ps : List ℕ) → length ps ≡ plan-width * tb .n → WellFormed tb (planOf ps) → Clear (plan-form tb ps)
+pub clear-of-plan : (tb : Table) (ps : List ℕ) → length ps ≡ plan-width * tb .n → WellFormed tb (planOf ps) →
+    Clear (plan-form tb ps)
 clear-of-plan tb ps whole w place h =
     ⊎-elim
     (λ a. a .1 whole)
@@ -135,13 +147,15 @@ clear-of-plan tb ps whole w place h =
         f
 
 -- a job list that the checks 7 and 8 do not refuse is well formed
-pub jobs-of-shape : (js : List ℕ) → Clear (jobs-shape js) → (length js ≡ job-width * jobsOf js .N) × (jobsOf js .N ≤ most-jobs)
+pub jobs-of-shape : (js : List ℕ) → Clear (jobs-shape js) →
+    (length js ≡ job-width * jobsOf js .N) × (jobsOf js .N ≤ most-jobs)
 jobs-of-shape js clear = (
   not-not-eq (length js) (job-width * jobsOf js .N) (λ h. clear 0 (refl, λ r. h (let e = r .1 in omega arith))),
   not-not-le (jobsOf js .N) most-jobs (λ h. clear 0 (refl, λ r. h (let e = r .1 in let f = r .2 in omega arith))),
 )
 
-pub jobs-of-clear : (tb : Table) (js : List ℕ) → Clear (jobs-shape js) → Clear (job-rules tb js) → WellFormedJobs tb (jobsOf js)
+pub jobs-of-clear : (tb : Table) (js : List ℕ) → Clear (jobs-shape js) → Clear (job-rules tb js) →
+    WellFormedJobs tb (jobsOf js)
 jobs-of-clear tb js s r =
     record {
       few = jobs-of-shape js s .1;
@@ -155,7 +169,8 @@ jobs-of-clear tb js s r =
                 (λ g. against k l b h (inr (e, lt (J .release k + tb .T (J .row k)) (J .release l) g))));
           };
       soon = λ k h. not-not-le (J .release k) last-release (λ g. alone k h (λ a. g (a .1)));
-      order = λ k l b h. not-not-le (J .release k) (J .release l) (λ g. against k l b h (inl (lt (J .release k) (J .release l) g)));
+      order = λ k l b h. not-not-le (J .release k) (J .release l)
+          (λ g. against k l b h (inl (lt (J .release k) (J .release l) g)));
     }
   where
     J : Jobs
@@ -170,10 +185,12 @@ jobs-of-clear tb js s r =
     against : (k l : ℕ) → k < l → l < J .N → BreaksAgainst tb J k l → ⊥
     against k l b h a = no-least r l (h, inr (k, b, a))
 
-pub shape-of-jobs : (js : List ℕ) → length js ≡ job-width * jobsOf js .N → jobsOf js .N ≤ most-jobs → Clear (jobs-shape js)
+pub shape-of-jobs : (js : List ℕ) → length js ≡ job-width * jobsOf js .N → jobsOf js .N ≤ most-jobs →
+    Clear (jobs-shape js)
 shape-of-jobs js whole few place h = h .1 (jobsOf js .N, whole, few)
 
-pub rules-of-jobs : (tb : Table) (js : List ℕ) → ((i : ℕ) → i < tb .n → 1 ≤ tb .T i) → WellFormedJobs tb (jobsOf js) → Clear (job-rules tb js)
+pub rules-of-jobs : (tb : Table) (js : List ℕ) → ((i : ℕ) → i < tb .n → 1 ≤ tb .T i) → WellFormedJobs tb (jobsOf js) →
+    Clear (job-rules tb js)
 rules-of-jobs tb js spaced w place l =
     let k = place in
     let h = l .holds .0 in

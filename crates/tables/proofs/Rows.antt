@@ -12,7 +12,11 @@ use Rattle.tables.specs.declared.Row.{Row}
 
 -- the i-th three numbers of a slice
 abbrev pub rowAt : List ℕ → ℕ → Row
-rowAt xs i = record { c = getD xs (row-width * i) 0; d = getD xs (row-width * i + 1) 0; t = getD xs (row-width * i + 2) 0 }
+rowAt xs i = record {
+  c = getD xs (row-width * i) 0;
+  d = getD xs (row-width * i + 1) 0;
+  t = getD xs (row-width * i + 2) 0;
+}
 
 -- A list holds f below i, and z from i on.
 module _ {A : Type 0} (z : A) (f : ℕ → A) where
@@ -45,7 +49,8 @@ table-ext : {n m : ℕ} {C D T C′ D′ T′ : ℕ → ℕ} → n ≡ m → C �
 table-ext n C D T = rw (n, C, D, T)
 
 -- what an array of n rows holds of a slice is the slice's table
-pub table-rows : (rows : List Row) (xs : List ℕ) (n : ℕ) → length xs ≡ row-width * n → Holds no (rowAt xs) rows n → tableIn rows n ≡ tableOf xs
+pub table-rows : (rows : List Row) (xs : List ℕ) (n : ℕ) → length xs ≡ row-width * n → Holds no (rowAt xs) rows n →
+    tableIn rows n ≡ tableOf xs
 table-rows rows xs n whole h =
     table-ext (omega arith)
     (fun-ext (λ i. at (λ r. r .c) i (past i (row-width * i) (λ g. omega arith))))

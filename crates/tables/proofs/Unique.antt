@@ -61,11 +61,7 @@ Tells a r = (r .number ≡ numberOf a) × (r .place ≡ placeOf a) × (r .value 
 pub said-unique : (a : Answer) (r s : Said) → Tells a r → Tells a s → r ≡ s
 said-unique a r s p q =
     λ i.
-    record {
-      number = (p .0 ∙ sym (q .0)) i;
-      place = (p .1 ∙ sym (q .1)) i;
-      value = (p .2 ∙ sym (q .2)) i;
-    }
+    record { number = (p .0 ∙ sym (q .0)) i; place = (p .1 ∙ sym (q .1)) i; value = (p .2 ∙ sym (q .2)) i }
 
 -- the checks of a task table and of a plan
 pub table-checked-unique : (xs : List ℕ) (a b : TableCheck) → TableChecked xs a → TableChecked xs b → a ≡ b
@@ -79,7 +75,8 @@ table-checked-unique xs (Range at) (Sound m) p q = absurd (q .1 at (p .1))
 table-checked-unique xs (Range at) Shape p q = absurd (p .0 0 q)
 table-checked-unique xs (Range a) (Range b) p q = ap Range (range-place xs a b (p .1) (q .1))
 
-pub plan-checked-unique : (tb : Table) (ps : List ℕ) (a b : PlanCheck) → PlanChecked tb ps a → PlanChecked tb ps b → a ≡ b
+pub plan-checked-unique : (tb : Table) (ps : List ℕ) (a b : PlanCheck) → PlanChecked tb ps a → PlanChecked tb ps b →
+    a ≡ b
 plan-checked-unique tb ps WellFormed WellFormed p q = refl
 plan-checked-unique tb ps WellFormed (AtFault at) p q = absurd (p at q)
 plan-checked-unique tb ps (AtFault at) WellFormed p q = absurd (q at p)

@@ -4,7 +4,8 @@ use Prim.Native.Nat.{ℕ}
 use mathlib.Core.List.{List}
 use Rattle.tables.specs.Refusal.{Result}
 use Rattle.tables.specs.declared.Answer.{Answer}
-use Rattle.tables.specs.declared.Answer.the-variants.{Given, Sheet, Shape, Range, Plan, JobsShape, Job, Room, NoBusy, NoPlan}
+use Rattle.tables.specs.declared.Answer.the-variants.{Given, Sheet, Shape, Range, Plan, JobsShape, Job, Room}
+use Rattle.tables.specs.declared.Answer.the-variants.{NoBusy, NoPlan}
 
 -- "No.": the number of the refusal; 0 where the answer is given
 abbrev pub numberOf : Answer → ℕ

@@ -78,14 +78,16 @@ pub struct Row {
     pub t: u32,
 }
 
-// What the checks of a task table answer: sound, with its number of rows; or refused, with the place where the refusal has one.
+// What the checks of a task table answer: sound, with its number of rows; or refused, with the place where the refusal
+// has one.
 pub enum TableCheck {
     Sound(usize),
     Shape,
     Range(u32),
 }
 
-// What the check of a plan answers: well formed; or the first row at fault, 32 where the slice is not two numbers a row.
+// What the check of a plan answers: well formed; or the first row at fault, 32 where the slice is not two numbers a
+// row.
 pub enum PlanCheck {
     WellFormed,
     AtFault(u32),

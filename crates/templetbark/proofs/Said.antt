@@ -18,4 +18,8 @@ said P a s out e h =
 
 -- where an operation has one result, it says one struct and leaves one later content of its output
 pub said-once : (r s : Said) (l m : List ℕ) → saidOf r l ≡ saidOf s m → (r ≡ s) × (l ≡ m)
-said-once r s l m e = ((λ i. record { number = e i .number; place = e i .place; value = e i .value }), ap (λ (x : Result). x .out) e)
+said-once r s l m e = (
+  (λ i. record { number = e i .number; place = e i .place; value = e i .value }),
+  ap
+      (λ (x : Result). x .out) e,
+)

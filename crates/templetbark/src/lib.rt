@@ -22,7 +22,8 @@ pub extern "C" fn tb_plan(table: &[u32], out: &mut [u32]) -> Said
 // A task table and a plan to response times.
 #[no_mangle]
 pub extern "C" fn tb_times(table: &[u32], plan: &[u32], out: &mut [u32]) -> Said
-    ensures { λ r. ⌜ TimesAnswer (now (table .entry)) (now (plan .entry)) (now (out .entry)) (saidOf r (now (out .exit))) ⌝ }
+    ensures { λ r. ⌜ TimesAnswer (now (table .entry)) (now (plan .entry)) (now (out .entry))
+        (saidOf r (now (out .exit))) ⌝ }
 {
     tables::say(times::times(table, plan, out))
 }
@@ -38,7 +39,8 @@ pub extern "C" fn tb_verdict(table: &[u32], plan: &[u32]) -> Said
 // A task table, a plan and a job list to finish ticks.
 #[no_mangle]
 pub extern "C" fn tb_play(table: &[u32], plan: &[u32], jobs: &[u32], out: &mut [u32]) -> Said
-    ensures { λ r. ⌜ PlayAnswer (now (table .entry)) (now (plan .entry)) (now (jobs .entry)) (now (out .entry)) (saidOf r (now (out .exit))) ⌝ }
+    ensures { λ r. ⌜ PlayAnswer (now (table .entry)) (now (plan .entry)) (now (jobs .entry)) (now (out .entry))
+        (saidOf r (now (out .exit))) ⌝ }
 {
     tables::say(play::play(table, plan, jobs, out))
 }
@@ -69,7 +71,8 @@ pub extern "C" fn tb_fit(planned: &[u32], len: usize) -> Said
 
 // A planned table to text, for callers in Rattle: the written front of the lent buffer itself, empty on a refusal.
 pub fn print<'a>(planned: &[u32], buf: &'a mut [u8]) -> &'a mut [u8]
-    ensures { λ r. ⌜ PrintFront (now (planned .entry)) (length (now (buf .entry))) (now r) × (r .ptr ≡ buf .entry .ptr) ⌝ }
+    ensures { λ r. ⌜ PrintFront (now (planned .entry)) (length (now (buf .entry))) (now r)
+        × (r .ptr ≡ buf .entry .ptr) ⌝ }
 {
     printing::print(planned, buf)
 }

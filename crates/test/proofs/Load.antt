@@ -1,4 +1,5 @@
--- Laws of the load: what rows ask for never falls with time, grows with the rows, and a row is taken out of it by its own part.
+-- Laws of the load: what rows ask for never falls with time, grows with the rows, and a row is taken out of it by its
+-- own part.
 use Prim.Native.Nat.{ℕ, suc, _+_, _*_, _/_, _≤_, _<_}
 use mathlib.Core.Path.{_≡_, refl, ap, sym, _∙_}
 use mathlib.Core.Bool.{Bool, true, false}
@@ -41,11 +42,13 @@ module _ (tb : Table) where
 
   -- more rows ask for no less, whatever rule counts the releases; the rows below n alone count
   module _ (releases : ℕ → ℕ → ℕ) where
-    pub load-sub : (P Q : ℕ → Bool) → ((j : ℕ) → j < tb .n → P j ≡ true → Q j ≡ true) → (t : ℕ) → load releases tb P t ≤ load releases tb Q t
+    pub load-sub : (P Q : ℕ → Bool) → ((j : ℕ) → j < tb .n → P j ≡ true → Q j ≡ true) → (t : ℕ) →
+        load releases tb P t ≤ load releases tb Q t
     unfolding load
     load-sub P Q h t = sum-le _ _ (tb .n) (λ j l. given-sub (P j) (Q j) _ (h j l))
 
-    pub load-ext : (P Q : ℕ → Bool) → ((j : ℕ) → j < tb .n → P j ≡ Q j) → (t : ℕ) → load releases tb P t ≡ load releases tb Q t
+    pub load-ext : (P Q : ℕ → Bool) → ((j : ℕ) → j < tb .n → P j ≡ Q j) → (t : ℕ) →
+        load releases tb P t ≡ load releases tb Q t
     unfolding load
     load-ext P Q h t = sum-ext _ _ (tb .n) (λ j l. ap (λ b. given b (releases t (tb .T j) * tb .C j)) (h j l))
 
@@ -56,7 +59,8 @@ module _ (tb : Table) where
     load-without U y t l e = sum-without U y (λ j. releases t (tb .T j) * tb .C j) (tb .n) l e
 
     -- one row's part
-    pub load-part : (U : ℕ → Bool) (y t : ℕ) → y < tb .n → U y ≡ true → releases t (tb .T y) * tb .C y ≤ load releases tb U t
+    pub load-part : (U : ℕ → Bool) (y t : ℕ) → y < tb .n → U y ≡ true →
+        releases t (tb .T y) * tb .C y ≤ load releases tb U t
     load-part U y t l e = omega (arith, load-without U y t l e)
 
   -- a row asks for its whole run before any t of at least 1

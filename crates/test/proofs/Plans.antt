@@ -1,4 +1,5 @@
--- Laws of a plan's rows: blocking, and that under a busy period within H every active period and every response exists, within it.
+-- Laws of a plan's rows: blocking, and that under a busy period within H every active period and every response exists,
+-- within it.
 use Prim.Native.Nat.{ℕ, pred, suc, _+_, _-_, _*_, _/_, _≤_, _<_}
 use mathlib.Core.Path.{_≡_, refl, ap, sym, _∙_, subst}
 use mathlib.Core.Bool.{Bool, true, false}
@@ -11,7 +12,8 @@ use Rattle.counting.proofs.Sum.{without-intro, given-yes, given-no, largest-ge,
 use Rattle.counting.proofs.Least.{least-bound, least-unique}
 use Rattle.tables.specs.Table.{Table, Sound}
 use Rattle.tables.specs.Plan.{Plan, WellFormed, blocks}
-use Rattle.test.specs.Test.{horizon, before, upto, load, every-row, busy-side, BusyWithin, Active, active-side, Response, above, below, longest, blocking, ResponseOf}
+use Rattle.test.specs.Test.{horizon, before, upto, load, every-row, busy-side, BusyWithin, Active, active-side}
+use Rattle.test.specs.Test.{Response, above, below, longest, blocking, ResponseOf}
 use Rattle.test.specs.Answers.{Bounded}
 use Rattle.test.proofs.Load.{Positive, sound-positive, load-sub, load-ext, load-without, run-asked}
 use Rattle.test.proofs.Compare.{response-alike}
@@ -38,7 +40,8 @@ module _ (tb : Table) (p : Plan) (r : ℕ) where
   blocking-some j l h one = omega (arith, blocking-is, longest-ge j l h)
 
   -- the longest is that of a row below, or there is none
-  pub longest-cases {ℓ} : {X : Type ℓ} → (longest tb p r ≡ 0 → X) → ((j : ℕ) → j < tb .n → r < p .rank j → longest tb p r ≡ p .len j → X) → X
+  pub longest-cases {ℓ} : {X : Type ℓ} → (longest tb p r ≡ 0 → X) →
+      ((j : ℕ) → j < tb .n → r < p .rank j → longest tb p r ≡ p .len j → X) → X
   unfolding longest
   longest-cases none some =
       largest-cases (λ j. given (below p r j) (blocks p j)) (tb .n) none
@@ -73,84 +76,103 @@ pub level-active : (tb : Table) (P : ℕ → Bool) (b i : ℕ) → Positive tb �
     (L : ℕ) × Active tb P b i L × (L ≤ w .period)
 level-active tb P b i pos l w le =
     let m = w .busy in
-    least-bound (active-side tb P b i) (active-side-mono tb P b i) 1 (active-side-up tb P b i pos l) (w .period) (m .low)
+    least-bound (active-side tb P b i) (active-side-mono tb P b i) 1 (active-side-up tb P b i pos l) (w .period)
+    (m .low)
     (omega (arith, le (w .period) (m .low), m .holds))
 
-module _ (tb : Table) (sound : Sound tb) (w : BusyWithin tb) (p : Plan) (wf : WellFormed tb p) (i : ℕ) (l : i < tb .n) where
-  abbrev P : ℕ → Bool
-  P = above p (p .rank i)
+module _ (tb : Table) (sound : Sound tb) (w : BusyWithin tb) (p : Plan) (wf : WellFormed tb p) (i : ℕ) (l : i < tb .n)
+  where
+    abbrev P : ℕ → Bool
+    P = above p (p .rank i)
 
-  abbrev B : ℕ
-  B = blocking tb p (p .rank i)
+    abbrev B : ℕ
+    B = blocking tb p (p .rank i)
 
-  -- the rows of no lower rank than i
-  abbrev level : ℕ → Bool
-  level j = leb (p .rank j) (p .rank i)
+    -- the rows of no lower rank than i
+    abbrev level : ℕ → Bool
+    level j = leb (p .rank j) (p .rank i)
 
-  plan-side : (t : ℕ) → 1 ≤ t → active-side tb P B i t ≤ busy-side tb t
-  plan-side t h =
-      let pos = sound-positive tb sound in
-      omega (
-        arith,
-        room tb p (p .rank i) level pos
-            (λ j g lower. (by-bool (level j) (λ e. absurd (omega (arith, leb-true (p .rank j) (p .rank i) e))) (λ e. e), wf .len-high j g)) t h,
-        active-side-is tb P B i t,
-        active-side-is tb (without level i) B i t,
-        active-side-level tb level B i t l (le-leb (p .rank i) (p .rank i) (omega arith)),
-        load-sub tb before P (without level i)
-            (λ j _ e.
-            let lt = ltb-true (p .rank j) (p .rank i) e in
-            without-intro level i j (λ q. omega (arith, ap (p .rank) q)) (le-leb (p .rank j) (p .rank i) (omega arith))) t,
-      )
+    plan-side : (t : ℕ) → 1 ≤ t → active-side tb P B i t ≤ busy-side tb t
+    plan-side t h =
+        let pos = sound-positive tb sound in
+        omega (
+          arith,
+          room tb p (p .rank i) level pos
+              (λ j g lower. (
+                by-bool (level j) (λ e. absurd (omega (arith, leb-true (p .rank j) (p .rank i) e))) (λ e. e),
+                wf .len-high j g,
+              )) t h,
+          active-side-is tb P B i t,
+          active-side-is tb (without level i) B i t,
+          active-side-level tb level B i t l (le-leb (p .rank i) (p .rank i) (omega arith)),
+          load-sub tb before P (without level i)
+              (λ j _ e.
+              let lt = ltb-true (p .rank j) (p .rank i) e in
+              without-intro level i j (λ q. omega (arith, ap (p .rank) q))
+              (le-leb (p .rank j) (p .rank i) (omega arith)))
+              t,
+        )
 
-  -- "every L of every well-formed plan exists and is at most H"
-  pub plan-active : (L : ℕ) × Active tb P B i L × (L ≤ horizon)
-  plan-active =
-      let r = level-active tb P B i (sound-positive tb sound) l w plan-side in
-      (r .0, r .1, omega (arith, r .2, w .within))
+    -- "every L of every well-formed plan exists and is at most H"
+    pub plan-active : (L : ℕ) × Active tb P B i L × (L ≤ horizon)
+    plan-active =
+        let r = level-active tb P B i (sound-positive tb sound) l w plan-side in
+        (r .0, r .1, omega (arith, r .2, w .within))
 
-  -- every response exists
-  pub plan-response : (R : ℕ) × ResponseOf tb p i R
-  plan-response =
-      let a = plan-active in
-      response-exists tb P B i (p .len i) (sound-positive tb sound) l (wf .len-low i l) (wf .len-high i l) (a .0) (a .1)
+    -- every response exists
+    pub plan-response : (R : ℕ) × ResponseOf tb p i R
+    plan-response =
+        let a = plan-active in
+        response-exists tb P B i (p .len i) (sound-positive tb sound) l (wf .len-low i l) (wf .len-high i l) (a .0)
+        (a .1)
 
-  -- "and so is every R; R is never below C"
-  pub plan-bounded : (R : ℕ) → ResponseOf tb p i R → Bounded tb p i R
-  plan-bounded R x =
-      let a = plan-active in
-      let pos = sound-positive tb sound in
-      record {
-        period = a .0;
-        active = a .1;
-        within = a .2;
-        low = response-low tb P B i (p .len i) pos l (wf .len-low i l) (wf .len-high i l) R x;
-        high =
-            omega (
-              arith,
-              response-high tb P B i (p .len i) pos l (wf .len-low i l) (wf .len-high i l) R x,
-              least-unique (x .active) (a .1),
-              a .2,
-            );
-      }
+    -- "and so is every R; R is never below C"
+    pub plan-bounded : (R : ℕ) → ResponseOf tb p i R → Bounded tb p i R
+    plan-bounded R x =
+        let a = plan-active in
+        let pos = sound-positive tb sound in
+        record {
+          period = a .0;
+          active = a .1;
+          within = a .2;
+          low = response-low tb P B i (p .len i) pos l (wf .len-low i l) (wf .len-high i l) R x;
+          high =
+              omega (
+                arith,
+                response-high tb P B i (p .len i) pos l (wf .len-low i l) (wf .len-high i l) R x,
+                least-unique (x .active) (a .1),
+                a .2,
+              );
+        }
 
 -- Two plans with the same ranks and lengths in the rows of the table have the same responses.
-module _ (tb : Table) (p p′ : Plan) (same : (j : ℕ) → j < tb .n → (p .rank j ≡ p′ .rank j) × (p .len j ≡ p′ .len j)) where
-  longest-same : (r : ℕ) → longest tb p r ≡ longest tb p′ r
-  longest-same r =
-      let up : longest tb p r ≤ longest tb p′ r =
-      longest-cases tb p r (λ e. omega arith) (λ j l h e. omega (arith, same j l, longest-ge tb p′ r j l (omega (arith, same j l)))) in
-      let down : longest tb p′ r ≤ longest tb p r =
-      longest-cases tb p′ r (λ e. omega arith) (λ j l h e. omega (arith, same j l, longest-ge tb p r j l (omega (arith, same j l)))) in
-      omega arith
+module _ (tb : Table) (p p′ : Plan) (same : (j : ℕ) → j < tb .n → (p .rank j ≡ p′ .rank j) × (p .len j ≡ p′ .len j))
+  where
+    longest-same : (r : ℕ) → longest tb p r ≡ longest tb p′ r
+    longest-same r =
+        let up : longest tb p r ≤ longest tb p′ r =
+        longest-cases tb p r (λ e. omega arith) (λ j l h e. omega
+        (arith, same j l, longest-ge tb p′ r j l (omega (arith, same j l)))) in
+        let down : longest tb p′ r ≤ longest tb p r =
+        longest-cases tb p′ r (λ e. omega arith)
+        (λ j l h e. omega (arith, same j l, longest-ge tb p r j l (omega (arith, same j l)))) in
+        omega arith
 
-  pub plan-alike : (i R : ℕ) → Positive tb → i < tb .n → 1 ≤ p .len i → p .len i ≤ tb .C i → ResponseOf tb p i R → ResponseOf tb p′ i R
-  plan-alike i R pos l low high x =
-      let rank = same i l .0 in
-      let b = blocking-is tb p (p .rank i) ∙ ap pred (longest-same (p .rank i)) ∙ sym (blocking-is tb p′ (p .rank i)) in
-      subst (λ q. Response tb (above p′ (p′ .rank i)) (blocking tb p′ (p′ .rank i)) i q R) (same i l .1)
-      (subst (λ r. Response tb (above p′ r) (blocking tb p′ r) i (p .len i) R) rank
-      (response-alike tb (above p (p .rank i)) (above p′ (p .rank i)) (blocking tb p (p .rank i)) (blocking tb p′ (p .rank i)) i (p .len i) R pos l
-      low high
-      (λ t _. omega (arith, b, load-ext tb before (above p (p .rank i)) (above p′ (p .rank i)) (λ j g. ap (λ k. ltb k (p .rank i)) (same j g .0)) t))
-      x))
+    pub plan-alike : (i R : ℕ) → Positive tb → i < tb .n → 1 ≤ p .len i → p .len i ≤ tb .C i → ResponseOf tb p i R →
+        ResponseOf tb p′ i R
+    plan-alike i R pos l low high x =
+        let rank = same i l .0 in
+        let b = blocking-is tb p (p .rank i) ∙ ap pred (longest-same (p .rank i))
+        ∙ sym (blocking-is tb p′ (p .rank i)) in
+        subst (λ q. Response tb (above p′ (p′ .rank i)) (blocking tb p′ (p′ .rank i)) i q R) (same i l .1)
+        (subst (λ r. Response tb (above p′ r) (blocking tb p′ r) i (p .len i) R) rank
+        (response-alike tb (above p (p .rank i)) (above p′ (p .rank i)) (blocking tb p (p .rank i))
+        (blocking tb p′ (p .rank i)) i (p .len i) R pos l
+        low high
+        (λ t _. omega (
+          arith,
+          b,
+          load-ext tb before (above p (p .rank i)) (above p′ (p .rank i))
+              (λ j g. ap (λ k. ltb k (p .rank i)) (same j g .0)) t,
+        ))
+        x))

@@ -1,4 +1,5 @@
--- Laws of the response: it exists where the active period does, there is one only, and it lies between C and the active period.
+-- Laws of the response: it exists where the active period does, there is one only, and it lies between C and the active
+-- period.
 use Prim.Native.Nat.{ℕ, zero, suc, _+_, _-_, _*_, _/_, _≤_, _<_}
 use mathlib.Core.Path.{_≡_, refl, ap, sym, _∙_, subst}
 use mathlib.Core.Bool.{Bool, true, false}
@@ -19,7 +20,8 @@ module _ (tb : Table) (P : ℕ → Bool) (b i q : ℕ) where
       let e = least-unique (x .active) (y .active) in
       omega (
         arith,
-        x .highest (y .job) (S + y .job * tb .T i) (subst (λ L. y .job < jobs tb P b i L) (sym e) (y .counts)) (y .reached),
+        x .highest (y .job) (S + y .job * tb .T i) (subst (λ L. y .job < jobs tb P b i L) (sym e) (y .counts))
+            (y .reached),
         y .highest (x .job) (R + x .job * tb .T i) (subst (λ L. x .job < jobs tb P b i L) e (x .counts)) (x .reached),
       )
 
@@ -55,13 +57,18 @@ module _ (tb : Table) (P : ℕ → Bool) (b i q : ℕ) where
             highest =
                 λ k f h x.
                 let z : k ≡ 0 = omega arith in
-                omega (arith, finish-unique (suc 0) f (t .rest + 0 * tb .T i) (subst (λ j. Finish tb P b i q (suc j) f) z x) (t .finish));
+                omega (
+                  arith,
+                  finish-unique (suc 0) f (t .rest + 0 * tb .T i)
+                      (subst (λ j. Finish tb P b i q (suc j) f) z x) (t .finish),
+                );
           }
       largest-of (suc m) g =
           let t = took (suc m) g in
           let z = largest-of m (omega arith) in
           let mine : (k f : ℕ) → k ≡ suc m → Finish tb P b i q (suc k) f → f ≡ t .rest + suc m * tb .T i =
-          λ k f e x. finish-unique (suc (suc m)) f (t .rest + suc m * tb .T i) (subst (λ j. Finish tb P b i q (suc j) f) e x) (t .finish) in
+          λ k f e x. finish-unique (suc (suc m)) f (t .rest + suc m * tb .T i)
+          (subst (λ j. Finish tb P b i q (suc j) f) e x) (t .finish) in
           by-le (t .rest) (z .R)
           (λ h. record {
             R = z .R;
@@ -91,7 +98,14 @@ module _ (tb : Table) (P : ℕ → Bool) (b i q : ℕ) where
           let e : suc (K - 1) ≡ K = omega arith in
           let z = subst (Largest L) e (largest-of (K - 1) (omega arith)) in (
             z .R,
-            record { period = L; active = a; job = z .job; counts = z .counts; reached = z .reached; highest = z .highest },
+            record {
+              period = L;
+              active = a;
+              job = z .job;
+              counts = z .counts;
+              reached = z .reached;
+              highest = z .highest;
+            },
           )
 
     module _ (R : ℕ) (r : Response tb P b i q R) where
@@ -100,7 +114,8 @@ module _ (tb : Table) (P : ℕ → Bool) (b i q : ℕ) where
           omega (
             arith,
             r .reached .ends,
-            finish-high tb P b i pos l q some most (r .period) (r .active) (suc (r .job)) (r .reached .start) (omega arith) (r .counts)
+            finish-high tb P b i pos l q some most (r .period) (r .active) (suc (r .job)) (r .reached .start)
+                (omega arith) (r .counts)
                 (r .reached .starts),
           )
 

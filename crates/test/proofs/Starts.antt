@@ -1,4 +1,5 @@
--- Laws of the starts within an active period: they exist, lie where they must, and each follows the one before by at least C.
+-- Laws of the starts within an active period: they exist, lie where they must, and each follows the one before by at
+-- least C.
 use Prim.Native.Nat.{ℕ, zero, suc, _+_, _-_, _*_, _/_, _≤_, _<_}
 use mathlib.Core.Path.{_≡_, refl, ap, sym, _∙_}
 use mathlib.Core.Bool.{Bool, true, false}
@@ -10,12 +11,14 @@ use Rattle.counting.proofs.Least.{least-bound, least-prefix, least-below, least
 use Rattle.tables.specs.Table.{Table}
 use Rattle.test.specs.Test.{before, upto, load, Active, active-side, jobs, Start, start-side}
 use Rattle.test.proofs.Load.{Positive, load-mono, load-upto-mono, load-upto}
-use Rattle.test.proofs.Sides.{active-side-is, active-side-mono, active-side-up, start-side-is, start-side-whole, start-side-mono}
+use Rattle.test.proofs.Sides.{active-side-is, active-side-mono, active-side-up, start-side-is, start-side-whole}
+use Rattle.test.proofs.Sides.{start-side-mono}
 
 module _ (tb : Table) (P : ℕ → Bool) (b i : ℕ) (pos : Positive tb) (l : i < tb .n) where
   -- under the active period the right side raises
   pub active-below : (L u : ℕ) → Active tb P b i L → 1 ≤ u → u < L → u < active-side tb P b i u
-  active-below L u a h g = least-below (active-side tb P b i) (active-side-mono tb P b i) 1 (active-side-up tb P b i pos l) u a h g
+  active-below L u a h g = least-below (active-side tb P b i) (active-side-mono tb P b i) 1
+      (active-side-up tb P b i pos l) u a h g
 
   -- an active period has at least one job, and each of its jobs is released within it
   pub jobs-some : (L : ℕ) → Active tb P b i L → 0 < jobs tb P b i L
@@ -77,7 +80,8 @@ module _ (tb : Table) (P : ℕ → Bool) (b i : ℕ) (pos : Positive tb) (l : i 
       pub start-exists : (k : ℕ) → 1 ≤ k → k ≤ jobs tb P b i L → (s : ℕ) × Start tb P b i q k s × (s + q ≤ L)
       start-exists k h g =
           let f = start-fits k h g in
-          let r = least-bound (start-side tb P b i upto q k) (start-side-mono tb P b i q k) 0 (omega arith) (L - q) (omega arith) (f .1) in
+          let r = least-bound (start-side tb P b i upto q k) (start-side-mono tb P b i q k) 0 (omega arith) (L - q)
+          (omega arith) (f .1) in
           (r .0, r .1, omega (arith, r .2, f .0))
 
       pub finish-high : (k s : ℕ) → 1 ≤ k → k ≤ jobs tb P b i L → Start tb P b i q k s → s + q ≤ L

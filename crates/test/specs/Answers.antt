@@ -36,7 +36,8 @@ pub record TimesGiven (tb : Table) (p : Plan) (out : List ℕ) (value : ℕ) (af
 abbrev pub TimesAnswer : List ℕ → List ℕ → List ℕ → Result → Type 0
 TimesAnswer xs ps out r =
     let tb = tableOf xs in
-    Answered (shape xs ∷ range xs ∷ plan-form tb ps ∷ room (tb .n) out ∷ no-busy tb ∷ []) (TimesGiven tb (planOf ps) out) out r
+    Answered (shape xs ∷ range xs ∷ plan-form tb ps ∷ room (tb .n) out ∷ no-busy tb ∷ [])
+    (TimesGiven tb (planOf ps) out) out r
 
 -- "yes" is the value 1, where the plan passes, and "no" the value 0, where it does not; no output is lent
 pub record VerdictGiven (tb : Table) (p : Plan) (value : ℕ) (after : List ℕ) : Type 0 where

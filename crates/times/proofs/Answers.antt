@@ -34,7 +34,8 @@ module _ (xs ps out : List ℕ) where
   pub times-range : (at : ℕ) → Clear (shape xs) → range xs .hits at → TimesAnswer xs ps out (resultOf (Range at) out)
   times-range at s h = inr (s, inl (refuse (range xs) out (Range at) refl h refl))
 
-  pub times-rest : (tb : Table) (r : Result) → Clear (shape xs) → Clear (range xs) → tb ≡ tableOf xs → TimesRest tb ps out r →
+  pub times-rest : (tb : Table) (r : Result) → Clear (shape xs) → Clear (range xs) → tb ≡ tableOf xs →
+      TimesRest tb ps out r →
       TimesAnswer xs ps out r
   times-rest tb r s g e a = inr (s, inr (g, subst (λ x. TimesRest x ps out r) e a))
 
@@ -45,7 +46,8 @@ module _ (xs ps : List ℕ) where
   pub verdict-range : (at : ℕ) → Clear (shape xs) → range xs .hits at → VerdictAnswer xs ps (resultOf (Range at) [])
   verdict-range at s h = inr (s, inl (refuse (range xs) [] (Range at) refl h refl))
 
-  pub verdict-rest : (tb : Table) (r : Result) → Clear (shape xs) → Clear (range xs) → tb ≡ tableOf xs → VerdictRest tb ps r →
+  pub verdict-rest : (tb : Table) (r : Result) → Clear (shape xs) → Clear (range xs) → tb ≡ tableOf xs →
+      VerdictRest tb ps r →
       VerdictAnswer xs ps r
   verdict-rest tb r s g e a = inr (s, inr (g, subst (λ x. VerdictRest x ps r) e a))
 
@@ -64,11 +66,11 @@ module _ (tb : Table) (ps : List ℕ) where
         roomy place h = let l = h .1 in omega arith
 
         pub times-busy : (BusyWithin tb → ⊥) → TimesRest tb ps out (resultOf NoBusy out)
-        times-busy h =
-            inr (form, inr (roomy, inl (refuse (no-busy tb) out NoBusy refl (refl, h) refl)))
+        times-busy h = inr (form, inr (roomy, inl (refuse (no-busy tb) out NoBusy refl (refl, h) refl)))
 
         pub times-given : (sound : Sound tb) (busy : BusyWithin tb) (rs after : List ℕ) →
-            Responses tb (planOf ps) rs → Written rs (tb .n) out after → TimesRest tb ps out (resultOf (Given (tb .n)) after)
+            Responses tb (planOf ps) rs → Written rs (tb .n) out after →
+            TimesRest tb ps out (resultOf (Given (tb .n)) after)
         times-given sound busy rs after rights w =
             inr (form, inr (roomy, inr (λ _ h. h .1 busy, record { number = refl; place = refl; given = given })))
           where
@@ -80,7 +82,8 @@ module _ (tb : Table) (ps : List ℕ) where
                 record {
                   many = refl;
                   responses = here;
-                  bounded = λ i l. plan-bounded tb sound busy (planOf ps) (planned tb ps sound form busy .plan) i l (getD after i 0) (here i l);
+                  bounded = λ i l. plan-bounded tb sound busy (planOf ps) (planned tb ps sound form busy .plan) i l
+                      (getD after i 0) (here i l);
                   whole = w .whole;
                   rest = w .rest;
                 }
@@ -96,14 +99,30 @@ module _ (tb : Table) (ps : List ℕ) where
     module _ (busy : BusyWithin tb) (rs : List ℕ) (rights : Responses tb (planOf ps) rs) where
       pub verdict-yes : InTime tb rs → VerdictRest tb ps (resultOf (Given 1) [])
       verdict-yes all =
-          inr (form, inr (λ _ h. h .1 busy, record { number = refl; place = refl; given = record { said = inl (refl, pass); unlent = refl } }))
+          inr (
+            form,
+            inr (
+              λ _ h. h .1 busy,
+              record { number = refl; place = refl; given = record { said = inl (refl, pass); unlent = refl } },
+            ),
+          )
         where
           pass : Passes tb (planOf ps)
           pass i l = record { R = getD rs i 0; response = rights .each i l; within = all i l }
 
       pub verdict-no : (InTime tb rs → ⊥) → VerdictRest tb ps (resultOf (Given 0) [])
       verdict-no some =
-          inr (form, inr (λ _ h. h .1 busy, record { number = refl; place = refl; given = record { said = inr (refl, λ pass. some (late pass)); unlent = refl } }))
+          inr (
+            form,
+            inr (
+              λ _ h. h .1 busy,
+              record {
+                number = refl;
+                place = refl;
+                given = record { said = inr (refl, λ pass. some (late pass)); unlent = refl };
+              },
+            ),
+          )
         where
           late : Passes tb (planOf ps) → InTime tb rs
           late pass i l =

@@ -11,7 +11,8 @@ use Rattle.tables.specs.Checks.{shape, range, plan-form, room}
 use Rattle.tables.specs.Refusal.{Result}
 use Rattle.test.specs.Answers.{no-busy, TimesGiven, VerdictGiven, TimesAnswer, VerdictAnswer}
 use Rattle.counting.proofs.Cases.{by-le}
-use Rattle.tables.proofs.Answered.{OnePlace, OneGiven, answered-unique, same-rest, shape-place, range-place, plan-form-place, room-place}
+use Rattle.tables.proofs.Answered.{OnePlace, OneGiven, answered-unique, same-rest, shape-place, range-place}
+use Rattle.tables.proofs.Answered.{plan-form-place, room-place}
 use Rattle.test.proofs.Response.{response-unique}
 
 pub no-busy-place : (tb : Table) → OnePlace (no-busy tb)
@@ -38,7 +39,8 @@ verdict-given-one tb p v w l m a b = (
 pub times-unique : (xs ps out : List ℕ) (r s : Result) → TimesAnswer xs ps out r → TimesAnswer xs ps out s → r ≡ s
 times-unique xs ps out r s x y =
     let tb = tableOf xs in
-    answered-unique (shape xs ∷ range xs ∷ plan-form tb ps ∷ room (tb .n) out ∷ no-busy tb ∷ []) (TimesGiven tb (planOf ps) out) out r s
+    answered-unique (shape xs ∷ range xs ∷ plan-form tb ps ∷ room (tb .n) out ∷ no-busy tb ∷ [])
+    (TimesGiven tb (planOf ps) out) out r s
     (shape-place xs, (range-place xs, (plan-form-place tb ps, (room-place (tb .n) out, (no-busy-place tb, tt)))))
     (λ _. times-given-one tb (planOf ps) out) x y
 

@@ -12,7 +12,8 @@ module _ (rs out : List ℕ) where
   pub written-none : Written rs 0 out out
   written-none = record { front = λ i h. absurd (omega arith); whole = refl; rest = refl }
 
-  pub written-more : (i : ℕ) (l : List ℕ) → Written rs i out l → i < length l → Written rs (i + 1) out (set l i (getD rs i 0))
+  pub written-more : (i : ℕ) (l : List ℕ) → Written rs i out l → i < length l →
+      Written rs (i + 1) out (set l i (getD rs i 0))
   written-more i l w h =
       record {
         front = stored (λ j x. x ≡ getD rs j 0) l i (getD rs i 0) h (w .front) refl;

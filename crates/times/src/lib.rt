@@ -45,7 +45,8 @@ fn in_time(rows: [Row; 32], n: usize, times: [u32; 32]) -> bool
 // times, once the table is sound: the checks 6, 2 and 4, then the times. Nothing is written before all checks are made.
 fn times_of(rows: [Row; 32], n: usize, plan: &[u32], out: &mut [u32]) -> Answer
     requires { ⌜ Sound (tableIn rows n) ⌝ }
-    ensures { λ r. ⌜ TimesRest (tableIn rows n) (now (plan .entry)) (now (out .entry)) (resultOf r (now (out .exit))) ⌝ }
+    ensures { λ r. ⌜ TimesRest (tableIn rows n) (now (plan .entry)) (now (out .entry))
+        (resultOf r (now (out .exit))) ⌝ }
 {
     let form = tables::check_plan(rows, n, plan);
     if let PlanCheck::AtFault(at) = form {
@@ -83,7 +84,8 @@ fn verdict_of(rows: [Row; 32], n: usize, plan: &[u32]) -> Answer
 
 // The response of each row of the plan, one number a row.
 pub fn times(table: &[u32], plan: &[u32], out: &mut [u32]) -> Answer
-    ensures { λ r. ⌜ TimesAnswer (now (table .entry)) (now (plan .entry)) (now (out .entry)) (resultOf r (now (out .exit))) ⌝ }
+    ensures { λ r. ⌜ TimesAnswer (now (table .entry)) (now (plan .entry)) (now (out .entry))
+        (resultOf r (now (out .exit))) ⌝ }
 {
     let checked = tables::check_table(table);
     match checked {

@@ -18,9 +18,6 @@ put-number-requires c κs =
     let n = w .ensures .behind in
     let k = w .kept .0 in omega (arith, length-append (a .word .now) (decimal (a .x)))
 
-same-length : tie.Need-same-length
-same-length c = search needs
-
 returns : tie.Need-returns
 returns c =
     let s = c .before .before .before .before .before .before .before .before .before .before in
@@ -30,4 +27,4 @@ returns c =
     (c .before .before .put-number .ensures)
 
 pub put-field-spec : {M : Type 1} → statement M
-put-field-spec = tie.close (tie.spec put-word-requires put-number-requires same-length returns)
+put-field-spec = tie.close (tie.spec put-word-requires put-number-requires (λ c. search needs) returns)

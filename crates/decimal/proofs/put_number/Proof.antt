@@ -1,4 +1,5 @@
--- `put_number` meets its contract. The loop's invariant is `Writing`: the digits behind those of the rest stand over the buffer.
+-- `put_number` meets its contract. The loop's invariant is `Writing`: the digits behind those of the rest stand over
+-- the buffer.
 use Prim.Native.Nat.{ℕ, _+_, _-_, _/_, _%_, _≤_, _<_}
 use mathlib.Core.Path.{_≡_, sym, ap, _∙_}
 use mathlib.Core.List.{List, [], _∷_, _++_, append-nil, append-assoc}
@@ -13,7 +14,8 @@ use Rattle.decimal.proofs.Placed.{placed-before, length-placed}
 use Rattle.decimal.proofs.put_number.Statement.{statement}
 use Rattle.decimal.proofs.put_number.Tie as tie
 
--- the digits `tail` of x behind those of `rest` stand over the buffer b, from behind the place of the rest's last digit on
+-- the digits `tail` of x behind those of `rest` stand over the buffer b, from behind the place of the rest's last digit
+-- on
 record Writing (b : List ℕ) (at x : ℕ) (buf : List ℕ) (place rest : ℕ) : Type 0 where
   tail : List ℕ
   text : decimal x ≡ decimal rest ++ tail
@@ -57,9 +59,6 @@ Inv-loop buf₀ at x behind place₀ rest₀ buf place rest = Writing buf₀ at 
 abbrev μ-loop : tie.MeasureT-loop
 μ-loop buf₀ at x behind place₀ rest₀ buf place rest = rest
 
-width-requires : tie.Need-width-requires Inv-loop μ-loop
-width-requires c κs = search needs
-
 add-behind : tie.Need-add-behind Inv-loop μ-loop
 add-behind c = omega (arith, c .width .ensures)
 
@@ -69,19 +68,14 @@ sub-place c = omega (arith, c .width .ensures, some (c .before .before .args .x)
 loop-holds : tie.Need-loop-holds Inv-loop μ-loop
 loop-holds c =
     let a = c .before .before .args in
-    let n : a .at + c .width .result - 1 + 1 ≡ a .at + length (decimal (a .x)) = omega (arith, c .width .ensures, some (a .x)) in
+    let n : a .at + c .width .result - 1 + 1 ≡ a .at + length (decimal (a .x)) =
+    omega (arith, c .width .ensures, some (a .x)) in
     record {
       tail = [];
       text = sym (append-nil (decimal (a .x)));
       last = n;
       whole = paste-zero (a .buf .now) (a .at + c .width .result - 1 + 1) [];
     }
-
-add-buf : tie.Need-add-buf Inv-loop μ-loop
-add-buf c = search needs
-
-cast-buf : tie.Need-cast-buf Inv-loop μ-loop
-cast-buf c = search needs
 
 slice-write-buf : tie.Need-slice-write-buf Inv-loop μ-loop
 slice-write-buf c =
@@ -90,19 +84,16 @@ slice-write-buf c =
 
 sub-place-2 : tie.Need-sub-place-2 Inv-loop μ-loop
 sub-place-2 c =
-    let l = c .before .loop in omega (arith, l .inv .last, length-big (l .rest) (c .loop-test .taken), some (l .rest / 10))
-
-loop-less : tie.Need-loop-less Inv-loop μ-loop
-loop-less c = search needs
+    let l = c .before .loop in omega (
+      arith,
+      l .inv .last,
+      length-big (l .rest) (c .loop-test .taken),
+      some
+          (l .rest / 10),
+    )
 
 loop-again : tie.Need-loop-again Inv-loop μ-loop
 loop-again c = one-more (c .before .loop .inv) (c .before .before .before .before .pre) (c .loop-test .taken)
-
-add-buf-2 : tie.Need-add-buf-2 Inv-loop μ-loop
-add-buf-2 c = search needs
-
-cast-buf-2 : tie.Need-cast-buf-2 Inv-loop μ-loop
-cast-buf-2 c = search needs
 
 slice-write-buf-2 : tie.Need-slice-write-buf-2 Inv-loop μ-loop
 slice-write-buf-2 c =
@@ -110,8 +101,7 @@ slice-write-buf-2 c =
     let p = c .before .before .before .before .pre in omega (arith, same (l .inv) p, room (l .inv) p)
 
 same-length : tie.Need-same-length Inv-loop μ-loop
-same-length c =
-    simp length-set (same (c .before .loop .inv) (c .before .before .before .before .pre))
+same-length c = simp length-set (same (c .before .loop .inv) (c .before .before .before .before .pre))
 
 returns : tie.Need-returns Inv-loop μ-loop
 returns c =
@@ -123,21 +113,6 @@ returns c =
 pub put-number-spec : {M : Type 1} → statement M
 put-number-spec =
     tie.close
-    (tie.spec
-    Inv-loop
-    μ-loop
-    width-requires
-    add-behind
-    sub-place
-    loop-holds
-    add-buf
-    cast-buf
-    slice-write-buf
-    sub-place-2
-    loop-less
-    loop-again
-    add-buf-2
-    cast-buf-2
-    slice-write-buf-2
-    same-length
-    returns)
+    (tie.spec Inv-loop μ-loop (λ c κs. search needs) add-behind sub-place loop-holds (λ c. search needs)
+    (λ c. search needs) slice-write-buf sub-place-2 (λ c. search needs) loop-again (λ c. search needs)
+    (λ c. search needs) slice-write-buf-2 same-length returns)

@@ -19,36 +19,16 @@ abbrev μ-loop : tie.MeasureT-loop
 loop-holds : tie.Need-loop-holds Inv-loop μ-loop
 loop-holds c = (search needs, refl, paste-zero (c .args .buf .now) (c .args .at) (c .args .word .now))
 
-shared-slice-read-buf : tie.Need-shared-slice-read-buf Inv-loop μ-loop
-shared-slice-read-buf c = search needs
-
-add-buf : tie.Need-add-buf Inv-loop μ-loop
-add-buf c = search needs
-
-slice-write-buf : tie.Need-slice-write-buf Inv-loop μ-loop
-slice-write-buf c = search needs
-
-add-i : tie.Need-add-i Inv-loop μ-loop
-add-i c = search needs
-
-loop-less : tie.Need-loop-less Inv-loop μ-loop
-loop-less c = search needs
-
 loop-again : tie.Need-loop-again Inv-loop μ-loop
 loop-again c =
     let a = c .before .before .before .args in
     let l = c .before .before .loop in
-    let e : set (l .buf) (a .at + l .i) (getD (a .word .now) (l .i) 0) ≡ paste (a .buf .now) (a .at) (a .word .now) (l .i + 1) =
+    let e : set (l .buf) (a .at + l .i) (getD (a .word .now) (l .i) 0) ≡ paste (a .buf .now) (a .at) (a .word .now)
+    (l .i + 1) =
     ap (λ (b : List ℕ). set b (a .at + l .i) (getD (a .word .now) (l .i) 0)) (l .inv .2)
     ∙ paste-suc (a .buf .now) (a .at) (a .word .now) (l .i) 0 (omega arith) (omega arith)
     ∙ rw add-one in
     (search needs, simp length-set (l .inv .1), e)
-
-add-result : tie.Need-add-result Inv-loop μ-loop
-add-result c = search needs
-
-same-length : tie.Need-same-length Inv-loop μ-loop
-same-length c = search needs
 
 returns : tie.Need-returns Inv-loop μ-loop
 returns c =
@@ -60,16 +40,5 @@ returns c =
 pub put-word-spec : {M : Type 1} → statement M
 put-word-spec =
     tie.close
-    (tie.spec
-    Inv-loop
-    μ-loop
-    loop-holds
-    shared-slice-read-buf
-    add-buf
-    slice-write-buf
-    add-i
-    loop-less
-    loop-again
-    add-result
-    same-length
-    returns)
+    (tie.spec Inv-loop μ-loop loop-holds (λ c. search needs) (λ c. search needs) (λ c. search needs)
+    (λ c. search needs) (λ c. search needs) loop-again (λ c. search needs) (λ c. search needs) returns)

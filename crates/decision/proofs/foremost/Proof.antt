@@ -19,14 +19,8 @@ abbrev μ-loop : tie.MeasureT-loop
 loop-holds : tie.Need-loop-holds Inv-loop μ-loop
 loop-holds c = scan-none _ _ _ _ _ _
 
-mul-if1 : tie.Need-mul-if1 Inv-loop μ-loop
-mul-if1 c = search needs
-
 element-copy-out-if1 : tie.Need-element-copy-out-if1 Inv-loop μ-loop
 element-copy-out-if1 c = omega (arith, c .before .before .before .before .pre .0 .sound .few)
-
-mul-urgency-of : tie.Need-mul-urgency-of Inv-loop μ-loop
-mul-urgency-of c = search needs
 
 element-copy-out-urgency-of : tie.Need-element-copy-out-urgency-of Inv-loop μ-loop
 element-copy-out-urgency-of c = omega (arith, c .before .before .before .before .before .before .pre .0 .sound .few)
@@ -36,12 +30,6 @@ urgency-of-requires c κs =
     let l = c .before .before .before in
     let b = l .before .before .before .before in
     (b .pre .0, l .loop-test .taken, b .pre .1 (l .before .loop .i) (l .loop-test .taken))
-
-add-i : tie.Need-add-i Inv-loop μ-loop
-add-i c = search needs
-
-loop-less : tie.Need-loop-less Inv-loop μ-loop
-loop-less c = search needs
 
 loop-again : tie.Need-loop-again Inv-loop μ-loop
 loop-again c =
@@ -62,16 +50,5 @@ returns c =
 pub foremost-spec : {M : Type 1} → statement M
 foremost-spec =
     tie.close
-    (tie.spec
-    Inv-loop
-    μ-loop
-    loop-holds
-    mul-if1
-    element-copy-out-if1
-    mul-urgency-of
-    element-copy-out-urgency-of
-    urgency-of-requires
-    add-i
-    loop-less
-    loop-again
-    returns)
+    (tie.spec Inv-loop μ-loop loop-holds (λ c. search needs) element-copy-out-if1 (λ c. search needs)
+    element-copy-out-urgency-of urgency-of-requires (λ c. search needs) (λ c. search needs) loop-again returns)

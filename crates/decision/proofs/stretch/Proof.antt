@@ -25,18 +25,6 @@ returns-2 c =
       ends = inl refl;
     }
 
-mul-until : tie.Need-mul-until
-mul-until c = search needs
-
-add-until : tie.Need-add-until
-add-until c = search needs
-
-mul-until-2 : tie.Need-mul-until-2
-mul-until-2 c = search needs
-
-shared-slice-read-until : tie.Need-shared-slice-read-until
-shared-slice-read-until c = search needs
-
 sub-until : tie.Need-sub-until
 sub-until c = omega (arith, c .before .before .before .pre .1 (c .before .if2 .left))
 
@@ -64,13 +52,5 @@ returns-4 c =
 pub stretch-spec : {M : Type 1} → statement M
 stretch-spec =
     tie.close
-    (tie.spec
-    returns
-    returns-2
-    mul-until
-    add-until
-    mul-until-2
-    shared-slice-read-until
-    sub-until
-    returns-3
-    returns-4)
+    (tie.spec returns returns-2 (λ c. search needs) (λ c. search needs) (λ c. search needs)
+    (λ c. search needs) sub-until returns-3 returns-4)

@@ -7,29 +7,20 @@ use Rattle.decision.proofs.Scan.{urgency-held, urgency-free}
 use Rattle.decision.proofs.urgency_of.Statement.{statement}
 use Rattle.decision.proofs.urgency_of.Tie as tie
 
-held-requires : tie.Need-held-requires
-held-requires c κs = search needs
-
 returns : tie.Need-returns
 returns c =
     let a = c .before .before .before .before .args in
-    sym (urgency-held (tableOf (a .table .now)) (planOf (a .plan .now)) (a .i) (a .e) (sym (c .before .held .ensures) ∙ c .if1 .taken))
-
-mul-result : tie.Need-mul-result
-mul-result c = search needs
-
-mul-result-2 : tie.Need-mul-result-2
-mul-result-2 c = search needs
-
-shared-slice-read-result : tie.Need-shared-slice-read-result
-shared-slice-read-result c = search needs
+    sym (urgency-held (tableOf (a .table .now)) (planOf (a .plan .now)) (a .i) (a .e)
+    (sym (c .before .held .ensures) ∙ c .if1 .taken))
 
 returns-2 : tie.Need-returns-2
 returns-2 c =
     let a = c .before .before .before .before .before .args in
-    sym (urgency-free (tableOf (a .table .now)) (planOf (a .plan .now)) (a .i) (a .e) (sym (c .before .before .held .ensures) ∙ c .before .if1 .left))
+    sym (urgency-free (tableOf (a .table .now)) (planOf (a .plan .now)) (a .i) (a .e)
+    (sym (c .before .before .held .ensures) ∙ c .before .if1 .left))
 
 pub urgency-of-spec : {M : Type 1} → statement M
 urgency-of-spec =
     tie.close
-    (tie.spec held-requires returns mul-result mul-result-2 shared-slice-read-result returns-2)
+    (tie.spec (λ c κs. search needs) returns (λ c. search needs) (λ c. search needs) (λ c. search needs)
+    returns-2)

@@ -1,4 +1,5 @@
--- What the functions that play decides with answer, in terms of the rule's own words. The promise of play does not rest on these definitions.
+-- What the functions that play decides with answer, in terms of the rule's own words. The promise of play does not rest
+-- on these definitions.
 use Prim.Native.Nat.{ℕ, _+_, _*_, _≤_, _<_}
 use mathlib.Core.Path.{_≡_}
 use mathlib.Core.Logic.{_⊎_}
@@ -38,12 +39,13 @@ pub record Released (js : Jobs) (from t next : ℕ) : Type 0 where
   pub came : (k : ℕ) → from ≤ k → k < next → js .release k ≤ t
   pub waits : next < js .N → t < js .release next
 
--- (a) before (b): a row whose earliest unfinished job has executed e ticks comes at its rank, and before every rank where that job runs on
+-- (a) before (b): a row whose earliest unfinished job has executed e ticks comes at its rank, and before every rank
+-- where that job runs on
 abbrev pub urgency : Table → Plan → ℕ → ℕ → ℕ
 urgency tb p i e = given (not (locked tb p i e)) (p .rank i)
 
--- of the rows whose earliest unfinished job, at their place of heads, stands before job `next`, row i comes first, among equals the
--- earliest row; i is n where there is none
+-- of the rows whose earliest unfinished job, at their place of heads, stands before job `next`, row i comes first,
+-- among equals the earliest row; i is n where there is none
 pub record Foremost (tb : Table) (p : Plan) (heads done : List ℕ) (next i : ℕ) : Type 0 where
   pub high : i ≤ tb .n
   pub waits : i < tb .n → getD heads i 0 < next
@@ -52,8 +54,8 @@ pub record Foremost (tb : Table) (p : Plan) (heads done : List ℕ) (next i : �
   pub earliest : (j : ℕ) → j < i → getD heads j 0 < next →
       urgency tb p i (getD done i 0) < urgency tb p j (getD done j 0)
 
--- a decision runs d ticks: one at least, at most those that are left to the job, and unless it is held none past the release of job
--- `next`; it ends with the job or, unless it is held, at that release
+-- a decision runs d ticks: one at least, at most those that are left to the job, and unless it is held none past the
+-- release of job `next`; it ends with the job or, unless it is held, at that release
 pub record Stretch (js : Jobs) (next t left : ℕ) (held : Bool) (d : ℕ) : Type 0 where
   pub some : 1 ≤ d
   pub within : d ≤ left

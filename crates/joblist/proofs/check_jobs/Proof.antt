@@ -1,4 +1,5 @@
--- `check_jobs` meets its contract. The loop's invariant is `Walked`: no job before k is at fault, and what the walk keeps of them shows a fault of job k.
+-- `check_jobs` meets its contract. The loop's invariant is `Walked`: no job before k is at fault, and what the walk
+-- keeps of them shows a fault of job k.
 use Prim.Native.Nat.{ℕ, _<_, _≤_, _*_, _-_}
 use mathlib.Core.Path.{refl, subst}
 use native.Mathlib.Omega.{arith}
@@ -50,7 +51,8 @@ module _ (h : tie.At-loop Inv-loop μ-loop) where
 kept : (c : tie.Else3 Inv-loop μ-loop) → let h = c .before .before .before in KeepsAlone (tb h) (jobsOf (js h)) (k h)
 kept c =
     let h = c .before .before .before in
-    subst (λ r. Says r (KeepsAlone (tb h) (jobsOf (js h)) (k h))) (not-false (c .before .keeps-alone .result) (c .if3 .left))
+    subst (λ r. Says r (KeepsAlone (tb h) (jobsOf (js h)) (k h)))
+    (not-false (c .before .keeps-alone .result) (c .if3 .left))
     (c .before .keeps-alone .ensures)
 
 returns : tie.Need-returns Inv-loop μ-loop
@@ -65,41 +67,18 @@ loop-holds c = (omega arith, walked-none _ _)
 keeps-alone-requires : tie.Need-keeps-alone-requires Inv-loop μ-loop
 keeps-alone-requires c κs = (s (c .before) .pre, c .loop-test .taken)
 
-cast-t15 : tie.Need-cast-t15 Inv-loop μ-loop
-cast-t15 c = search needs
-
 returns-3 : tie.Need-returns-3 Inv-loop μ-loop
 returns-3 c =
     let h = c .before .before .before in
     let alone =
-    subst (λ r. Says r (KeepsAlone (tb h) (jobsOf (js h)) (k h))) (not-true (c .before .keeps-alone .result) (c .if3 .taken))
+    subst (λ r. Says r (KeepsAlone (tb h) (jobsOf (js h)) (k h)))
+    (not-true (c .before .keeps-alone .result) (c .if3 .taken))
     (c .before .keeps-alone .ensures) in
     faulty h (c .before .before .loop-test .taken)
     (inl (λ b. alone (record { row = b .0; soon = b .1; run-low = b .2; run-high = b .3 })))
 
-mul-at : tie.Need-mul-at Inv-loop μ-loop
-mul-at c = search needs
-
-mul-i : tie.Need-mul-i Inv-loop μ-loop
-mul-i c = search needs
-
-shared-slice-read-i : tie.Need-shared-slice-read-i Inv-loop μ-loop
-shared-slice-read-i c = search needs
-
 cast-i : tie.Need-cast-i Inv-loop μ-loop
 cast-i c = omega (arith, c .shared-slice-known3 .given (3 * k (c .before .before .before .before)))
-
-add-release : tie.Need-add-release Inv-loop μ-loop
-add-release c = search needs
-
-mul-release : tie.Need-mul-release Inv-loop μ-loop
-mul-release c = search needs
-
-shared-slice-read-release : tie.Need-shared-slice-read-release Inv-loop μ-loop
-shared-slice-read-release c = search needs
-
-cast-t21 : tie.Need-cast-t21 Inv-loop μ-loop
-cast-t21 c = search needs
 
 returns-4 : tie.Need-returns-4 Inv-loop μ-loop
 returns-4 c =
@@ -121,13 +100,11 @@ array-read-if5 c =
     let n = s (c .before .before .before .before .before .before) .pre in
     omega arith
 
-cast-t26 : tie.Need-cast-t26 Inv-loop μ-loop
-cast-t26 c = search needs
-
 returns-5 : tie.Need-returns-5 Inv-loop μ-loop
 returns-5 c =
     let h = c .before .before .before .before .before .before .before in
-    faulty h (c .before .before .before .before .before .before .loop-test .taken) (too-close (h .loop .inv .1) (c .if5 .taken))
+    faulty h (c .before .before .before .before .before .before .loop-test .taken)
+    (too-close (h .loop .inv .1) (c .if5 .taken))
 
 mul-after : tie.Need-mul-after Inv-loop μ-loop
 mul-after c = omega (arith, kept (c .before .before .before .before) .row)
@@ -141,9 +118,6 @@ mul-after-2 c = omega (arith, kept (c .before .before .before .before) .row)
 shared-slice-read-after : tie.Need-shared-slice-read-after Inv-loop μ-loop
 shared-slice-read-after c = omega (arith, kept (c .before .before .before .before .before) .row)
 
-after-requires : tie.Need-after-requires Inv-loop μ-loop
-after-requires c κs = search needs
-
 mul-earliest : tie.Need-mul-earliest Inv-loop μ-loop
 mul-earliest c = omega (arith, kept (c .before .before .before .before .before .before) .row)
 
@@ -153,12 +127,6 @@ array-write-earliest c =
     let n = s (c .before .before .before .before .before .before .before .before .before) .pre in
     omega arith
 
-add-k : tie.Need-add-k Inv-loop μ-loop
-add-k c = search needs
-
-loop-less : tie.Need-loop-less Inv-loop μ-loop
-loop-less c = search needs
-
 loop-again : tie.Need-loop-again Inv-loop μ-loop
 loop-again c =
     let h = c .before .before .before .before .before .before .before .before .before in
@@ -166,11 +134,9 @@ loop-again c =
     let n = s h .pre in (
       omega arith,
       rw (c .after .ensures)
-          (walked-on (h .loop .inv .1) r (c .before .before .before .if4 .left) (c .before .before .if5 .left) (omega arith)),
+          (walked-on (h .loop .inv .1) r (c .before .before .before .if4 .left) (c .before .before .if5 .left)
+          (omega arith)),
     )
-
-cast-t32 : tie.Need-cast-t32 Inv-loop μ-loop
-cast-t32 c = search needs
 
 returns-6 : tie.Need-returns-6 Inv-loop μ-loop
 returns-6 c =
@@ -180,38 +146,8 @@ returns-6 c =
 pub check-jobs-spec : {M : Type 1} → statement M
 check-jobs-spec =
     tie.close
-    (tie.spec
-    Inv-loop
-    μ-loop
-    returns
-    returns-2
-    loop-holds
-    keeps-alone-requires
-    cast-t15
-    returns-3
-    mul-at
-    mul-i
-    shared-slice-read-i
-    cast-i
-    add-release
-    mul-release
-    shared-slice-read-release
-    cast-t21
-    returns-4
-    cast-if5
-    mul-if5
-    array-read-if5
-    cast-t26
-    returns-5
-    mul-after
-    add-after
-    mul-after-2
-    shared-slice-read-after
-    after-requires
-    mul-earliest
-    array-write-earliest
-    add-k
-    loop-less
-    loop-again
-    cast-t32
-    returns-6)
+    (tie.spec Inv-loop μ-loop returns returns-2 loop-holds keeps-alone-requires (λ c. search needs) returns-3
+    (λ c. search needs) (λ c. search needs) (λ c. search needs) cast-i (λ c. search needs) (λ c. search needs)
+    (λ c. search needs) (λ c. search needs) returns-4 cast-if5 mul-if5 array-read-if5 (λ c. search needs)
+    returns-5 mul-after add-after mul-after-2 shared-slice-read-after (λ c κs. search needs) mul-earliest
+    array-write-earliest (λ c. search needs) (λ c. search needs) loop-again (λ c. search needs) returns-6)

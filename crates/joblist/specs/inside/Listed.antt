@@ -16,7 +16,8 @@ pub record KeepsAlone (tb : Table) (js : Jobs) (k : ℕ) : Type 0 where
   pub run-low : 1 ≤ js .run k
   pub run-high : js .run k ≤ tb .C (js .row k)
 
--- what each answer of the check means: the first of its two checks that hits, and its place; or the number of jobs, where neither does
+-- what each answer of the check means: the first of its two checks that hits, and its place; or the number of jobs,
+-- where neither does
 abbrev pub ListSaid : Table → List ℕ → Listed → Type 0
 ListSaid tb js (WellFormed many) = (many ≡ jobsOf js .N) × Clear (jobs-shape js) × Clear (job-rules tb js)
 ListSaid tb js Shape = jobs-shape js .hits 0

@@ -7,12 +7,10 @@ use Rattle.marks.proofs.Marks.{one-shl, worth, less-by-worth}
 use Rattle.marks.proofs.less.Statement.{statement}
 use Rattle.marks.proofs.less.Tie as tie
 
-shl-result : tie.Need-shl-result
-shl-result c = search needs
-
 sub-result : tie.Need-sub-result
 sub-result c =
-    subst (λ (x : ℕ). x ≤ c .args .set) (sym (one-shl (c .args .i) (c .pre .0))) (worth (c .args .i) (c .args .set) (c .pre .1))
+    subst (λ (x : ℕ). x ≤ c .args .set) (sym (one-shl (c .args .i) (c .pre .0)))
+    (worth (c .args .i) (c .args .set) (c .pre .1))
 
 returns : tie.Need-returns
 returns c =
@@ -20,4 +18,4 @@ returns c =
     (less-by-worth (c .args .i) (c .args .set) (c .pre .1))
 
 pub less-spec : {M : Type 1} → statement M
-less-spec = tie.close (tie.spec shl-result sub-result returns)
+less-spec = tie.close (tie.spec (λ c. search needs) sub-result returns)

@@ -6,14 +6,8 @@ use Rattle.marks.proofs.Marks.{shifted, whole-by-power}
 use Rattle.marks.proofs.whole.Statement.{statement}
 use Rattle.marks.proofs.whole.Tie as tie
 
-sub-result : tie.Need-sub-result
-sub-result c = search needs
-
-shr-result : tie.Need-shr-result
-shr-result c = search needs
-
 returns : tie.Need-returns
 returns c = subst (Whole (c .args .n)) (sym (shifted (c .args .n) (c .pre .1))) (whole-by-power (c .args .n))
 
 pub whole-spec : {M : Type 1} → statement M
-whole-spec = tie.close (tie.spec sub-result shr-result returns)
+whole-spec = tie.close (tie.spec (λ c. search needs) (λ c. search needs) returns)

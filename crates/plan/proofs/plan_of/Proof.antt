@@ -37,26 +37,15 @@ module _ (c : tie.After-enum-told2) where
       let f = subst (BusyFound (tb S)) (c .enum-told2 .given .1) (c .before .before .busy-period .ensures) in
       record { period = c .enum-told2 .given .0 .0; busy = f .0; within = f .1 }
 
-mul-if1 : tie.Need-mul-if1
-mul-if1 c = search needs
-
 returns : tie.Need-returns
 returns c = let s = c .before .before in plan-room (tb s) (o s) (c .if1 .taken)
-
-busy-period-requires : tie.Need-busy-period-requires
-busy-period-requires c κs = search needs
-
-enum-told : tie.Need-enum-told
-enum-told c = search needs
 
 returns-2 : tie.Need-returns-2
 returns-2 c =
     let b = c .before .before in
     let s = b .before .before .before in
-    plan-busy (tb s) (o s) (b .before .if1 .left) (subst (BusyFound (tb s)) (c .enum-told .given .1) (b .busy-period .ensures))
-
-enum-told-2 : tie.Need-enum-told-2
-enum-told-2 c = search needs
+    plan-busy (tb s) (o s) (b .before .if1 .left)
+    (subst (BusyFound (tb s)) (c .enum-told .given .1) (b .busy-period .ensures))
 
 fill-requires : tie.Need-fill-requires
 fill-requires c κs = (S c .pre, busy c)
@@ -71,15 +60,6 @@ returns-3 c =
 
 write-requires : tie.Need-write-requires
 write-requires c κs = let e = c .before .before .before .before .before .before in (S e .pre .few, roomy e)
-
-mul-t8 : tie.Need-mul-t8
-mul-t8 c = search needs
-
-cast-t14 : tie.Need-cast-t14
-cast-t14 c = search needs
-
-same-length : tie.Need-same-length
-same-length c = search needs
 
 returns-4 : tie.Need-returns-4
 returns-4 c =
@@ -99,17 +79,6 @@ returns-4 c =
 pub plan-of-spec : {M : Type 1} → statement M
 plan-of-spec =
     tie.close
-    (tie.spec
-    mul-if1
-    returns
-    busy-period-requires
-    enum-told
-    returns-2
-    enum-told-2
-    fill-requires
-    returns-3
-    write-requires
-    mul-t8
-    cast-t14
-    same-length
-    returns-4)
+    (tie.spec (λ c. search needs) returns (λ c κs. search needs) (λ c. search needs) returns-2
+    (λ c. search needs) fill-requires returns-3 write-requires (λ c. search needs) (λ c. search needs)
+    (λ c. search needs) returns-4)

@@ -9,7 +9,8 @@ use Rattle.responses.specs.inside.Asked.{Responses}
 use Rattle.choice.specs.Choice.{Chosen, Stopped}
 use Rattle.plan.specs.declared.filling.Filling.{Filling}
 
--- "Ranks are filled from n down to 1": 0 is said, each row's rank, length and response stand in its places, and the places past the rows hold 0
+-- "Ranks are filled from n down to 1": 0 is said, each row's rank, length and response stand in its places, and the
+-- places past the rows hold 0
 pub record FilledAll (tb : Table) (f : Filling) : Type 0 where
   pub said : f .stopped ≡ 0
   pub chosen : Chosen tb (planOf (f .plan))

@@ -1,4 +1,6 @@
--- `finish_all` meets its contract. The loop's invariant is `Playing`: how play stands at tick t; its measure is the turns that may still come.
+-- `finish_all` meets its contract. The loop's invariant is `Playing`: how play stands at tick t; its measure is the
+-- turns that may still come.
+use borrow.Author.Needs.{needs}
 use Prim.Native.Nat.{ℕ, _≤_, _-_, _+_}
 use mathlib.Core.Path.{_≡_, subst}
 use native.Mathlib.Omega.{arith}
@@ -49,26 +51,31 @@ module _ (c : tie.After-foremost Inv-loop μ-loop) where
   abbrev e : ℕ
   e = at (h .loop .done) i
 
-  decision : Decided tb p js (s .args .out .now) (h .loop .t) (h .loop .next) (h .loop .heads) (h .loop .done) (h .loop .out) i
+  decision : Decided tb p js (s .args .out .now) (h .loop .t) (h .loop .next) (h .loop .heads) (h .loop .done)
+      (h .loop .out) i
   decision =
       let r = s .pre .0 in
       let l = h .loop in
-      T.decided tb p js (r .sound) (r .formed) (s .pre .1) (s .args .out .now) (l .t) (l .next) (l .heads) (l .done) (l .out)
+      T.decided tb p js (r .sound) (r .formed) (s .pre .1) (s .args .out .now) (l .t) (l .next) (l .heads) (l .done)
+      (l .out)
       (l .inv .1) (l .inv .0) i (c .foremost .ensures)
 
   room : js .N ≤ length (h .loop .out)
   room = omega (arith, s .pre .2, h .loop .inv .0 .whole)
 
   -- how far it runs, said of the rule's test
-  stretched : (held : Bool) (d : ℕ) → held ≡ locked tb p i e → Stretch js (h .loop .next) (h .loop .t) (js .run k - e) held d →
+  stretched : (held : Bool) (d : ℕ) → held ≡ locked tb p i e →
+      Stretch js (h .loop .next) (h .loop .t) (js .run k - e) held d →
       Stretch js (h .loop .next) (h .loop .t) (js .run k - e) (locked tb p i e) d
   stretched held d q st = subst (λ b. Stretch js (h .loop .next) (h .loop .t) (js .run k - e) b d) q st
 
 ran : (c : tie.After-stretch Inv-loop μ-loop) →
     let d = c .before .before .before .before in
-    Stretch (js d) (h d .loop .next) (h d .loop .t) (js d .run (k d) - e d) (locked (tb d) (p d) (i d) (e d)) (c .stretch .result)
+    Stretch (js d) (h d .loop .next) (h d .loop .t) (js d .run (k d) - e d) (locked (tb d) (p d) (i d) (e d))
+    (c .stretch .result)
 ran c =
-    stretched (c .before .before .before .before) (c .before .held .result) (c .stretch .result) (c .before .held .ensures)
+    stretched (c .before .before .before .before) (c .before .held .result) (c .stretch .result)
+    (c .before .held .ensures)
     (c .stretch .ensures)
 
 -- after the turn
@@ -94,14 +101,13 @@ decided c =
 first-jobs-requires : tie.Need-first-jobs-requires Inv-loop μ-loop
 first-jobs-requires c κs = c .before .before .before .before .pre .0 .sound .few
 
-released-requires : tie.Need-released-requires Inv-loop μ-loop
-released-requires c κs = omega arith
-
 loop-holds : tie.Need-loop-holds Inv-loop μ-loop
 loop-holds c =
     let s = c .before .before .before .before .before .before in
-    T.starts (tableOf (s .args .table .now)) (planOf (s .args .plan .now)) (jobsOf (s .args .jobs .now)) (s .pre .0 .sound) (s .pre .0 .formed)
-    (s .pre .1) (s .args .out .now) (c .before .first-jobs .result) (c .released .result) (c .before .first-jobs .ensures) (c .released .ensures)
+    T.starts (tableOf (s .args .table .now)) (planOf (s .args .plan .now)) (jobsOf (s .args .jobs .now))
+    (s .pre .0 .sound) (s .pre .0 .formed)
+    (s .pre .1) (s .args .out .now) (c .before .first-jobs .result) (c .released .result)
+    (c .before .first-jobs .ensures) (c .released .ensures)
 
 foremost-requires : tie.Need-foremost-requires Inv-loop μ-loop
 foremost-requires c κs =
@@ -236,22 +242,26 @@ following-requires c κs =
 
 mul-heads : tie.Need-mul-heads Inv-loop μ-loop
 mul-heads c =
-    let r = decision (c .before .before .before .before .before .before) .runs (c .before .before .before .before .before .if1 .left) in
+    let r = decision (c .before .before .before .before .before .before) .runs
+    (c .before .before .before .before .before .if1 .left) in
     omega arith
 
 array-write-heads : tie.Need-array-write-heads Inv-loop μ-loop
 array-write-heads c =
-    let r = decision (c .before .before .before .before .before .before) .runs (c .before .before .before .before .before .if1 .left) in
+    let r = decision (c .before .before .before .before .before .before) .runs
+    (c .before .before .before .before .before .if1 .left) in
     omega arith
 
 mul-done-2 : tie.Need-mul-done-2 Inv-loop μ-loop
 mul-done-2 c =
-    let r = decision (c .before .before .before .before .before .before) .runs (c .before .before .before .before .before .if1 .left) in
+    let r = decision (c .before .before .before .before .before .before) .runs
+    (c .before .before .before .before .before .if1 .left) in
     omega arith
 
 array-write-done-2 : tie.Need-array-write-done-2 Inv-loop μ-loop
 array-write-done-2 c =
-    let r = decision (c .before .before .before .before .before .before) .runs (c .before .before .before .before .before .if1 .left) in
+    let r = decision (c .before .before .before .before .before .before) .runs
+    (c .before .before .before .before .before .if1 .left) in
     omega arith
 
 released-requires-2 : tie.Need-released-requires-2 Inv-loop μ-loop
@@ -269,51 +279,16 @@ loop-again c =
     let b = c .before .before in
     let l = h b .loop in (
       d .0,
-      T.next-turn (tb b) (p b) (js b) (s b .pre .0 .sound) (s b .pre .0 .formed) (s b .pre .1) (s b .args .out .now) (l .next) (l .t) _ _
+      T.next-turn (tb b) (p b) (js b) (s b .pre .0 .sound) (s b .pre .0 .formed) (s b .pre .1) (s b .args .out .now)
+          (l .next) (l .t) _ _
           (l .heads) _ (l .inv .1) (d .1) (c .released2 .ensures),
     )
 
 pub finish-all-spec : {M : Type 1} → statement M
 finish-all-spec =
     tie.close
-    (tie.spec
-    Inv-loop
-    μ-loop
-    first-jobs-requires
-    released-requires
-    loop-holds
-    foremost-requires
-    same-length
-    returns
-    mul-t
-    add-t
-    mul-t-2
-    shared-slice-read-t
-    mul-k
-    array-read-k
-    mul-e
-    array-read-e
-    mul-run
-    add-run
-    mul-run-2
-    shared-slice-read-run
-    held-requires
-    sub-stretch
-    stretch-requires
-    add-t-2
-    add-if3
-    add-done
-    mul-done
-    array-write-done
-    mul-out
-    slice-write-out
-    cast-following
-    add-following
-    following-requires
-    mul-heads
-    array-write-heads
-    mul-done-2
-    array-write-done-2
-    released-requires-2
-    loop-less
-    loop-again)
+    (tie.spec Inv-loop μ-loop first-jobs-requires (λ c κs. search needs) loop-holds foremost-requires
+    same-length returns mul-t add-t mul-t-2 shared-slice-read-t mul-k array-read-k mul-e array-read-e mul-run
+    add-run mul-run-2 shared-slice-read-run held-requires sub-stretch stretch-requires add-t-2 add-if3
+    add-done mul-done array-write-done mul-out slice-write-out cast-following add-following following-requires
+    mul-heads array-write-heads mul-done-2 array-write-done-2 released-requires-2 loop-less loop-again)

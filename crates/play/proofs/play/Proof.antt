@@ -14,18 +14,6 @@ use Rattle.play.proofs.Answers.{play-shape, play-range, play-rest}
 use Rattle.play.proofs.play.Statement.{statement}
 use Rattle.play.proofs.play.Tie as tie
 
-check-table-requires : tie.Need-check-table-requires
-check-table-requires c κs = search needs
-
-enum-told : tie.Need-enum-told
-enum-told c = search needs
-
-enum-known-checked : tie.Need-enum-known-checked
-enum-known-checked c = search needs
-
-enum-known-checked-2 : tie.Need-enum-known-checked-2
-enum-known-checked-2 c = search needs
-
 -- The table is sound.
 module _ (c : tie.After-known-told2) where
   abbrev s : tie.Start
@@ -54,29 +42,20 @@ returns-2 c =
     let e = c .before .before .before in
     let a = e .before .before .before .before .before .args in
     let h = subst (TableChecked (a .table .now)) (c .before .checked .given .1) (e .check-table .ensures) in
-    play-range (a .table .now) (a .plan .now) (a .jobs .now) (a .out .now) (c .before .checked .given .0 .0) (h .0) (h .1)
-
-same-length : tie.Need-same-length
-same-length c = search needs
+    play-range (a .table .now) (a .plan .now) (a .jobs .now) (a .out .now) (c .before .checked .given .0 .0) (h .0)
+    (h .1)
 
 returns-3 : tie.Need-returns-3
 returns-3 c =
     let d = c .before .before in
     let k = d .before .before in
     let a = s k .args in
-    play-rest (a .table .now) (a .plan .now) (a .jobs .now) (a .out .now) (resultOf (d .play-sound .result) (d .play-sound .last .1 .1 .1 .1 .0))
+    play-rest (a .table .now) (a .plan .now) (a .jobs .now) (a .out .now)
+    (resultOf (d .play-sound .result) (d .play-sound .last .1 .1 .1 .1 .0))
     (clear k .0) (clear k .1) (d .play-sound .ensures)
 
 pub play-spec : {M : Type 1} → statement M
 play-spec =
     tie.close
-    (tie.spec
-    check-table-requires
-    enum-told
-    enum-known-checked
-    enum-known-checked-2
-    play-sound-requires
-    returns
-    returns-2
-    same-length
-    returns-3)
+    (tie.spec (λ c κs. search needs) (λ c. search needs) (λ c. search needs) (λ c. search needs)
+    play-sound-requires returns returns-2 (λ c. search needs) returns-3)

@@ -16,15 +16,6 @@ use Rattle.play.proofs.Answers.{rest-plan, rest-jobs, rest-job, rest-ro
 use Rattle.play.proofs.play_sound.Statement.{statement}
 use Rattle.play.proofs.play_sound.Tie as tie
 
-rows-of-requires : tie.Need-rows-of-requires
-rows-of-requires c κs = search needs
-
-check-plan-requires : tie.Need-check-plan-requires
-check-plan-requires c κs = search needs
-
-enum-known-form : tie.Need-enum-known-form
-enum-known-form c = search needs
-
 -- The table is sound.
 module _ (s : tie.Start) where
   abbrev tb : Table
@@ -48,7 +39,8 @@ module _ (c : tie.After-enum-told) where
   form =
       let d = c .before .before in
       subst (λ t. Clear (plan-form t (ps s))) (d .before .rows-of .ensures)
-      (subst (PlanChecked (tableIn (d .before .rows-of .result) (s .args .n)) (ps s)) (c .enum-told .given .1) (d .check-plan .ensures))
+      (subst (PlanChecked (tableIn (d .before .rows-of .result) (s .args .n)) (ps s)) (c .enum-told .given .1)
+      (d .check-plan .ensures))
 
 -- The job list is well formed.
 module _ (c : tie.After-known-told3) where
@@ -59,7 +51,8 @@ module _ (c : tie.After-known-told3) where
   many = c .before .listed2 .given .0 .0
 
   listed : (many ≡ jobsOf (js (s f)) .N) × Clear (jobs-shape (js (s f))) × Clear (job-rules (tb (s f)) (js (s f)))
-  listed = subst (ListSaid (tb (s f)) (js (s f))) (c .before .listed2 .given .1) (c .before .before .before .check-jobs .ensures)
+  listed = subst (ListSaid (tb (s f)) (js (s f))) (c .before .listed2 .given .1)
+      (c .before .before .before .check-jobs .ensures)
 
 returns : tie.Need-returns
 returns c =
@@ -67,25 +60,11 @@ returns c =
     let s = d .before .before .before .before .before .before in
     rest-plan (tb s) (ps s) (js s) (os s) (c .before .form .given .0 .0)
     (subst (λ t. plan-form t (ps s) .hits (c .before .form .given .0 .0)) (d .before .rows-of .ensures)
-    (subst (PlanChecked (tableIn (d .before .rows-of .result) (s .args .n)) (ps s)) (c .before .form .given .1) (d .check-plan .ensures)))
-
-enum-told : tie.Need-enum-told
-enum-told c = search needs
+    (subst (PlanChecked (tableIn (d .before .rows-of .result) (s .args .n)) (ps s)) (c .before .form .given .1)
+    (d .check-plan .ensures)))
 
 check-jobs-requires : tie.Need-check-jobs-requires
 check-jobs-requires c κs = omega (arith, s c .pre .0 .few, s c .pre .1)
-
-enum-told-2 : tie.Need-enum-told-2
-enum-told-2 c = search needs
-
-enum-known-listed : tie.Need-enum-known-listed
-enum-known-listed c = search needs
-
-enum-known-listed-2 : tie.Need-enum-known-listed-2
-enum-known-listed-2 c = search needs
-
-cast-if1 : tie.Need-cast-if1
-cast-if1 c = search needs
 
 returns-2 : tie.Need-returns-2
 returns-2 c =
@@ -109,7 +88,8 @@ returns-3 : tie.Need-returns-3
 returns-3 c =
     let d = c .before .before in
     let b = s (d .before) in
-    rest-jobs (tb b) (ps b) (js b) (os b) (form (d .before)) (subst (ListSaid (tb b) (js b)) (c .enum-told2 .given .1) (d .check-jobs .ensures))
+    rest-jobs (tb b) (ps b) (js b) (os b) (form (d .before))
+    (subst (ListSaid (tb b) (js b)) (c .enum-told2 .given .1) (d .check-jobs .ensures))
 
 returns-4 : tie.Need-returns-4
 returns-4 c =
@@ -117,9 +97,6 @@ returns-4 c =
     let b = s (d .before) in
     let h = subst (ListSaid (tb b) (js b)) (c .before .listed .given .1) (d .check-jobs .ensures) in
     rest-job (tb b) (ps b) (js b) (os b) (form (d .before)) (h .0) (c .before .listed .given .0 .0) (h .1)
-
-same-length : tie.Need-same-length
-same-length c = search needs
 
 returns-5 : tie.Need-returns-5
 returns-5 c =
@@ -133,20 +110,6 @@ returns-5 c =
 pub play-sound-spec : {M : Type 1} → statement M
 play-sound-spec =
     tie.close
-    (tie.spec
-    rows-of-requires
-    check-plan-requires
-    enum-known-form
-    returns
-    enum-told
-    check-jobs-requires
-    enum-told-2
-    enum-known-listed
-    enum-known-listed-2
-    cast-if1
-    returns-2
-    finish-all-requires
-    returns-3
-    returns-4
-    same-length
-    returns-5)
+    (tie.spec (λ c κs. search needs) (λ c κs. search needs) (λ c. search needs) returns (λ c. search needs)
+    check-jobs-requires (λ c. search needs) (λ c. search needs) (λ c. search needs) (λ c. search needs)
+    returns-2 finish-all-requires returns-3 returns-4 (λ c. search needs) returns-5)

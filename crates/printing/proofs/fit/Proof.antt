@@ -14,15 +14,18 @@ clear-shape : (c : tie.Else1) → Clear (planned-shape (c .before .before .befor
 clear-shape c =
     let r = c .before .rows in
     let n = r .ensures in
-    shape-of-rows (c .before .before .before .args .planned .now) (record { n = r .result; whole = n .whole (omega arith); some = omega arith; few = n .few })
-
-rows-requires : tie.Need-rows-requires
-rows-requires c κs = search needs
+    shape-of-rows (c .before .before .before .args .planned .now)
+    (record { n = r .result; whole = n .whole (omega arith); some = omega arith; few = n .few })
 
 returns : tie.Need-returns
 returns c =
     let r = c .before .rows .ensures in
-    inl (record { number = refl; place = (refl, λ w. r .none (c .if1 .taken) (w .n) (w .some) (w .few) (w .whole)); value = refl; unwritten = refl })
+    inl (record {
+      number = refl;
+      place = (refl, λ w. r .none (c .if1 .taken) (w .n) (w .some) (w .few) (w .whole));
+      value = refl;
+      unwritten = refl;
+    })
 
 plan-bytes-requires : tie.Need-plan-bytes-requires
 plan-bytes-requires c κs =
@@ -31,7 +34,11 @@ plan-bytes-requires c κs =
 returns-2 : tie.Need-returns-2
 returns-2 c =
     let b = c .before .plan-bytes .ensures .0 in
-    inr (clear-shape (c .before .before), inl (record { number = refl; place = (refl, omega arith); value = refl; unwritten = refl }))
+    inr (
+      clear-shape (c .before .before),
+      inl
+          (record { number = refl; place = (refl, omega arith); value = refl; unwritten = refl }),
+    )
 
 cast-t7 : tie.Need-cast-t7
 cast-t7 c =
@@ -40,8 +47,13 @@ cast-t7 c =
 returns-3 : tie.Need-returns-3
 returns-3 c =
     let b = c .before .plan-bytes .ensures .0 in
-    inr (clear-shape (c .before .before), inr (λ place h. let q = h .1 in omega arith, record { number = refl; place = refl; given = record { many = b; unlent = refl } }))
+    inr (
+      clear-shape (c .before .before),
+      inr (
+        λ place h. let q = h .1 in omega arith,
+        record { number = refl; place = refl; given = record { many = b; unlent = refl } },
+      ),
+    )
 
 pub fit-spec : {M : Type 1} → statement M
-fit-spec =
-    tie.close (tie.spec rows-requires returns plan-bytes-requires returns-2 cast-t7 returns-3)
+fit-spec = tie.close (tie.spec (λ c κs. search needs) returns plan-bytes-requires returns-2 cast-t7 returns-3)

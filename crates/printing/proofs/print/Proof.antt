@@ -7,19 +7,14 @@ use borrow.Author.Needs.{needs}
 use Rattle.printing.proofs.print.Statement.{statement}
 use Rattle.printing.proofs.print.Tie as tie
 
-print-into-requires : tie.Need-print-into-requires
-print-into-requires c κs = search needs
-
-say-requires : tie.Need-say-requires
-say-requires c κs = search needs
-
 slice-aggregate-result : tie.Need-slice-aggregate-result
 slice-aggregate-result c =
     let p = c .before .before .before .before .print-into in
     let b = c .before .before .before .before .before .before .before .before .args .buf .now in
     let v = c .before .say .ensures .2 in
     sym (length-take-le (c .before .say .result .value) (p .last .1 .0)
-    (let w = front-within (c .before .before .before .before .before .before .before .before .args .planned .now) b (p .ensures) (p .kept .1 .0) in omega arith))
+    (let w = front-within (c .before .before .before .before .before .before .before .before .args .planned .now) b
+    (p .ensures) (p .kept .1 .0) in omega arith))
 
 returns : tie.Need-returns
 returns c =
@@ -28,4 +23,4 @@ returns c =
     (rw (c .before .say .ensures .2) (front (s .args .planned .now) (s .args .buf .now) (p .ensures)), refl)
 
 pub print-spec : {M : Type 1} → statement M
-print-spec = tie.close (tie.spec print-into-requires say-requires slice-aggregate-result returns)
+print-spec = tie.close (tie.spec (λ c κs. search needs) (λ c κs. search needs) slice-aggregate-result returns)

@@ -31,12 +31,6 @@ fits c =
     (c .before .before .before .fit .ensures)
     (sym (c .before .before .say .ensures .0) ∙ c .if1 .taken)
 
-fit-requires : tie.Need-fit-requires
-fit-requires c κs = search needs
-
-say-requires : tie.Need-say-requires
-say-requires c κs = search needs
-
 put-plan-requires : tie.Need-put-plan-requires
 put-plan-requires c κs =
     let s = c .before .before .before .before .before .before .before in
@@ -44,9 +38,6 @@ put-plan-requires c κs =
     let r = rows-of-shape (s .args .planned .now) (f .0) in
     let w = r .whole in
     let m = r .few in (omega arith, omega arith, f .1)
-
-same-length : tie.Need-same-length
-same-length c = search needs
 
 returns : tie.Need-returns
 returns c =
@@ -60,7 +51,8 @@ returns c =
       inr (
         λ place h. let q = h .1 in let g = f .1 in omega arith,
         record {
-          number = sym (c .before .before .before .before .before .before .say .ensures .0) ∙ c .before .before .before .before .if1 .taken;
+          number = sym (c .before .before .before .before .before .before .say .ensures .0)
+              ∙ c .before .before .before .before .if1 .taken;
           place = f .2;
           given =
               record {
@@ -82,4 +74,5 @@ returns-2 c =
 
 pub print-into-spec : {M : Type 1} → statement M
 print-into-spec =
-    tie.close (tie.spec fit-requires say-requires put-plan-requires same-length returns returns-2)
+    tie.close (tie.spec (λ c κs. search needs) (λ c κs. search needs) put-plan-requires (λ c. search needs) returns
+    returns-2)

@@ -12,24 +12,21 @@ use borrow.Author.Needs.{needs}
 use Rattle.printing.proofs.put_head.Statement.{statement}
 use Rattle.printing.proofs.put_head.Tie as tie
 
-slice-aggregate-put-field : tie.Need-slice-aggregate-put-field
-slice-aggregate-put-field c = search needs
-
 put-field-requires : tie.Need-put-field-requires
 put-field-requires c κs =
     let s = c .before .before .before in
     omega (arith, s .pre, length-planLine (s .args .n))
 
-slice-aggregate-put-word : tie.Need-slice-aggregate-put-word
-slice-aggregate-put-word c = search needs
-
 put-word-requires : tie.Need-put-word-requires
 put-word-requires c κs =
     let s = c .before .before .before .before .before .before .before .before in
-    omega (arith, s .pre, c .before .before .before .before .put-field .ensures .behind, c .before .before .before .before .put-field .kept .0, length-planLine (s .args .n))
-
-same-length : tie.Need-same-length
-same-length c = search needs
+    omega (
+      arith,
+      s .pre,
+      c .before .before .before .before .put-field .ensures .behind,
+      c .before .before .before .before .put-field .kept .0,
+      length-planLine (s .args .n),
+    )
 
 returns : tie.Need-returns
 unfolding planLine
@@ -37,15 +34,11 @@ returns c =
     let s = c .before .before .before .before .before .before .before .before .before .before .before in
     let t1 = word "plan " ++ decimal (s .args .n) in
     let f1 : 0 + length t1 ≤ length (s .args .buf .now) = fits-front 0 t1 (word "\n") (let p = s .pre in omega arith) in
-    put-behind f1 (c .before .before .before .before .before .before .before .put-field .ensures) (c .before .before .put-word .ensures)
+    put-behind f1 (c .before .before .before .before .before .before .before .put-field .ensures)
+    (c .before .before .put-word .ensures)
 
 pub put-head-spec : {M : Type 1} → statement M
 put-head-spec =
     tie.close
-    (tie.spec
-    slice-aggregate-put-field
-    put-field-requires
-    slice-aggregate-put-word
-    put-word-requires
-    same-length
+    (tie.spec (λ c. search needs) put-field-requires (λ c. search needs) put-word-requires (λ c. search needs)
     returns)

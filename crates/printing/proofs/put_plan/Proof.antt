@@ -18,9 +18,6 @@ Inv-loop buf₀ planned n behind₀ i₀ buf behind i =
 abbrev μ-loop : tie.MeasureT-loop
 μ-loop buf₀ planned n behind₀ i₀ buf behind i = n - i
 
-cast-put-head : tie.Need-cast-put-head Inv-loop μ-loop
-cast-put-head c = search needs
-
 put-head-requires : tie.Need-put-head-requires Inv-loop μ-loop
 put-head-requires c κs =
     let s = c .before .before .before in
@@ -32,36 +29,6 @@ loop-holds c =
     let a = c .before .before .before .before .before .before .args in
     (omega arith, refl, rw rows-none (put-none (h .last .0) (h .result)))
 
-mul-at : tie.Need-mul-at Inv-loop μ-loop
-mul-at c = search needs
-
-cast-put-row : tie.Need-cast-put-row Inv-loop μ-loop
-cast-put-row c = search needs
-
-mul-put-row : tie.Need-mul-put-row Inv-loop μ-loop
-mul-put-row c = search needs
-
-shared-slice-read-put-row : tie.Need-shared-slice-read-put-row Inv-loop μ-loop
-shared-slice-read-put-row c = search needs
-
-add-put-row : tie.Need-add-put-row Inv-loop μ-loop
-add-put-row c = search needs
-
-mul-put-row-2 : tie.Need-mul-put-row-2 Inv-loop μ-loop
-mul-put-row-2 c = search needs
-
-shared-slice-read-put-row-2 : tie.Need-shared-slice-read-put-row-2 Inv-loop μ-loop
-shared-slice-read-put-row-2 c = search needs
-
-add-put-row-2 : tie.Need-add-put-row-2 Inv-loop μ-loop
-add-put-row-2 c = search needs
-
-mul-put-row-3 : tie.Need-mul-put-row-3 Inv-loop μ-loop
-mul-put-row-3 c = search needs
-
-shared-slice-read-put-row-3 : tie.Need-shared-slice-read-put-row-3 Inv-loop μ-loop
-shared-slice-read-put-row-3 c = search needs
-
 put-row-requires : tie.Need-put-row-requires Inv-loop μ-loop
 put-row-requires c κs =
     let l = c .before .before .before .before .before .loop in
@@ -70,13 +37,15 @@ put-row-requires c κs =
     let h = c .before .before .before .before .before .before .before .before .put-head in
     let e = l .inv .1 in
     let q = l .inv .2 .behind in
-    omega (arith, h .ensures .behind, h .kept .0, s .pre .2, length-text (s .args .planned .now) (s .args .n) (s .pre .1), rows-fit (s .args .planned .now) (s .args .n) (l .i) t)
-
-add-i : tie.Need-add-i Inv-loop μ-loop
-add-i c = search needs
-
-loop-less : tie.Need-loop-less Inv-loop μ-loop
-loop-less c = search needs
+    omega (
+      arith,
+      h .ensures .behind,
+      h .kept .0,
+      s .pre .2,
+      length-text (s .args .planned .now) (s .args .n)
+          (s .pre .1),
+      rows-fit (s .args .planned .now) (s .args .n) (l .i) t,
+    )
 
 loop-again : tie.Need-loop-again Inv-loop μ-loop
 loop-again c =
@@ -85,13 +54,24 @@ loop-again c =
     let t = c .before .before .before .before .before .before .before .loop-test .taken in
     let h = c .before .before .before .before .before .before .before .before .before .before .before .put-head in
     let f : h .result + length (rowLines (s .args .planned .now) (l .i)) ≤ length (h .last .0) =
-    omega (arith, h .ensures .behind, h .kept .0, s .pre .2, length-text (s .args .planned .now) (s .args .n) (s .pre .1), rows-fit (s .args .planned .now) (s .args .n) (l .i) t) in
-    let p = c .before .before .put-row in
-    (omega arith, p .kept .0 ∙ l .inv .1, rw (rows-more (s .args .planned .now) (l .i)) (put-behind f (l .inv .2) (p .ensures)))
+    omega (
+      arith,
+      h .ensures .behind,
+      h .kept .0,
+      s .pre .2,
+      length-text (s .args .planned .now) (s .args .n)
+          (s .pre .1),
+      rows-fit (s .args .planned .now) (s .args .n) (l .i) t,
+    ) in
+    let p = c .before .before .put-row in (
+      omega arith,
+      p .kept .0 ∙ l .inv .1,
+      rw (rows-more (s .args .planned .now) (l .i))
+          (put-behind f (l .inv .2) (p .ensures)),
+    )
 
 same-length : tie.Need-same-length Inv-loop μ-loop
-same-length c =
-    c .before .loop .inv .1 ∙ c .before .before .before .before .put-head .kept .0
+same-length c = c .before .loop .inv .1 ∙ c .before .before .before .before .put-head .kept .0
 
 returns : tie.Need-returns Inv-loop μ-loop
 returns c =
@@ -101,30 +81,13 @@ returns c =
     let e : l .i ≡ s .args .n = omega arith in
     let p = rw e at (l .inv .2) in
     rw (text-whole (s .args .planned .now) (s .args .n) (s .pre .1))
-    (put-behind (let w = s .pre .2 in omega (arith, length-text (s .args .planned .now) (s .args .n) (s .pre .1))) (h .ensures) p)
+    (put-behind (let w = s .pre .2 in omega (arith, length-text (s .args .planned .now) (s .args .n) (s .pre .1)))
+    (h .ensures) p)
 
 pub put-plan-spec : {M : Type 1} → statement M
 put-plan-spec =
     tie.close
-    (tie.spec
-    Inv-loop
-    μ-loop
-    cast-put-head
-    put-head-requires
-    loop-holds
-    mul-at
-    cast-put-row
-    mul-put-row
-    shared-slice-read-put-row
-    add-put-row
-    mul-put-row-2
-    shared-slice-read-put-row-2
-    add-put-row-2
-    mul-put-row-3
-    shared-slice-read-put-row-3
-    put-row-requires
-    add-i
-    loop-less
-    loop-again
-    same-length
-    returns)
+    (tie.spec Inv-loop μ-loop (λ c. search needs) put-head-requires loop-holds (λ c. search needs)
+    (λ c. search needs) (λ c. search needs) (λ c. search needs) (λ c. search needs) (λ c. search needs)
+    (λ c. search needs) (λ c. search needs) (λ c. search needs) (λ c. search needs) put-row-requires
+    (λ c. search needs) (λ c. search needs) loop-again same-length returns)

@@ -14,7 +14,8 @@ use Rattle.printing.proofs.row_bytes.Tie as tie
 short : (x : ℕ) → Fits w32 x → length (decimal x) ≤ 10
 short x f = few 9 x (let h = f .fits in omega arith)
 
-limit : (c : tie.After-width4) → c .before .before .before .width .result + c .before .before .width2 .result + c .before .width3 .result + c .width4 .result + 29 ≤ 69
+limit : (c : tie.After-width4) → c .before .before .before .width .result + c .before .before .width2 .result
+    + c .before .width3 .result + c .width4 .result + 29 ≤ 69
 limit c =
     let s = c .before .before .before .before in
     omega (
@@ -29,27 +30,30 @@ limit c =
       c .width4 .ensures,
     )
 
-width-requires : tie.Need-width-requires
-width-requires c κs = search needs
-
-width-requires-2 : tie.Need-width-requires-2
-width-requires-2 c κs = search needs
-
 add-result : tie.Need-add-result
 add-result c =
     let s = c .before .before in
-    omega (arith, short (s .args .i) (s .fits .i), short (s .args .rank) (s .fits .rank), c .before .width .ensures, c .width2 .ensures)
-
-width-requires-3 : tie.Need-width-requires-3
-width-requires-3 c κs = search needs
+    omega (
+      arith,
+      short (s .args .i) (s .fits .i),
+      short (s .args .rank) (s .fits .rank),
+      c .before .width .ensures,
+      c .width2 .ensures,
+    )
 
 add-result-2 : tie.Need-add-result-2
 add-result-2 c =
     let s = c .before .before .before in
-    omega (arith, short (s .args .i) (s .fits .i), short (s .args .rank) (s .fits .rank), short (s .args .len) (s .fits .len), c .before .before .width .ensures, c .before .width2 .ensures, c .width3 .ensures)
-
-width-requires-4 : tie.Need-width-requires-4
-width-requires-4 c κs = search needs
+    omega (
+      arith,
+      short (s .args .i) (s .fits .i),
+      short (s .args .rank) (s .fits .rank),
+      short (s .args .len)
+          (s .fits .len),
+      c .before .before .width .ensures,
+      c .before .width2 .ensures,
+      c .width3 .ensures,
+    )
 
 add-result-3 : tie.Need-add-result-3
 add-result-3 c = let l = limit c in omega arith
@@ -61,18 +65,19 @@ returns : tie.Need-returns
 returns c =
     let a = c .before .before .before .before .args in
     let e = length-rowLine (a .i) (a .rank) (a .len) (a .response) in
-    let l = limit c in (omega (arith, c .before .before .before .width .ensures, c .before .before .width2 .ensures, c .before .width3 .ensures, c .width4 .ensures), l)
+    let l = limit c in (
+      omega (
+        arith,
+        c .before .before .before .width .ensures,
+        c .before .before .width2 .ensures,
+        c .before .width3 .ensures,
+        c .width4 .ensures,
+      ),
+      l,
+    )
 
 pub row-bytes-spec : {M : Type 1} → statement M
 row-bytes-spec =
     tie.close
-    (tie.spec
-    width-requires
-    width-requires-2
-    add-result
-    width-requires-3
-    add-result-2
-    width-requires-4
-    add-result-3
-    add-result-4
-    returns)
+    (tie.spec (λ c κs. search needs) (λ c κs. search needs) add-result (λ c κs. search needs) add-result-2
+    (λ c κs. search needs) add-result-3 add-result-4 returns)

@@ -7,17 +7,15 @@ use borrow.Author.Needs.{needs}
 use Rattle.program.proofs.print_planned.Statement.{statement}
 use Rattle.program.proofs.print_planned.Tie as tie
 
-print-requires : tie.Need-print-requires
-print-requires c κs = search needs
-
 returns : tie.Need-returns
 returns c =
     let s = c .before .before .before in
     let l = text-most (s .args .planned .now) (λ i. c .before .before .shared-slice-known .given i .fits) (s .pre .0) in
     let p = s .pre .1 in (
-      front-given (s .args .planned .now) (length (s .args .page .now)) (c .print .result .now) (s .pre .0) (omega arith) (c .print .ensures .0),
+      front-given (s .args .planned .now) (length (s .args .page .now)) (c .print .result .now) (s .pre .0)
+          (omega arith) (c .print .ensures .0),
       c .print .ensures .1,
     )
 
 pub print-planned-spec : {M : Type 1} → statement M
-print-planned-spec = tie.close (tie.spec print-requires returns)
+print-planned-spec = tie.close (tie.spec (λ c κs. search needs) returns)

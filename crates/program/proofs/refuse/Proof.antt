@@ -12,18 +12,19 @@ use Rattle.program.proofs.refuse.Statement.{statement}
 use Rattle.program.proofs.refuse.Tie as tie
 
 line : tie.After-page2 → List ℕ
-line c = refusedLine (c .before .before .before .before .before .before .args .number) (c .before .before .before .before .before .before .args .place)
+line c = refusedLine (c .before .before .before .before .before .before .args .number)
+    (c .before .before .before .before .before .before .args .place)
 
 -- the line stands at the front
-front : (c : tie.After-page2) → take (c .before .before .before .put-refused .result) (c .before .before .before .put-refused .last .0) ≡ line c
+front : (c : tie.After-page2) → take (c .before .before .before .put-refused .result)
+    (c .before .before .before .put-refused .last .0) ≡ line c
 unfolding line
 front c =
     let p = c .before .before .before .put-refused in
     let e : p .result ≡ length (line c) = (let b = p .ensures .behind in omega arith) in
-    ap (take (p .result)) (p .ensures .whole) ∙ take-at (line c) (drop (0 + length (line c)) (c .before .before .before .before .before .before .args .page .now)) (p .result) (sym e)
-
-put-refused-requires : tie.Need-put-refused-requires
-put-refused-requires c κs = search needs
+    ap (take (p .result)) (p .ensures .whole) ∙ take-at (line c)
+    (drop (0 + length (line c)) (c .before .before .before .before .before .before .args .page .now)) (p .result)
+    (sym e)
 
 slice-aggregate-result : tie.Need-slice-aggregate-result
 unfolding line
@@ -36,4 +37,4 @@ unfolding line
 returns c = (front c, refl)
 
 pub refuse-spec : {M : Type 1} → statement M
-refuse-spec = tie.close (tie.spec put-refused-requires slice-aggregate-result returns)
+refuse-spec = tie.close (tie.spec (λ c κs. search needs) slice-aggregate-result returns)

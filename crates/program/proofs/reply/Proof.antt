@@ -16,27 +16,17 @@ abbrev answer : tie.After-say → Result
 answer k = resultOf (k .before .before .sheet .result) (k .before .before .sheet .last .1 .0)
 
 -- given, the front is within the array
-within : (c : tie.Else1) → c .before .before .say .result .value ≤ length (c .before .before .before .before .sheet .last .1 .0)
+within : (c : tie.Else1) → c .before .before .say .result .value ≤ length
+    (c .before .before .before .before .sheet .last .1 .0)
 within c =
     let k = c .before .before in
-    let w = sheet-within (k .before .before .before .before .before .before .args .text .now) (answer k) (k .before .before .sheet .ensures) (sym (k .say .ensures .0) ∙ zero c) in
+    let w = sheet-within (k .before .before .before .before .before .before .args .text .now) (answer k)
+    (k .before .before .sheet .ensures) (sym (k .say .ensures .0) ∙ zero c) in
     let l = k .before .before .sheet .kept .1 .0 in
     let v = k .say .ensures .2 in omega arith
   where
     zero : (c : tie.Else1) → c .before .before .say .result .number ≡ 0
     zero c = c .if1 .left
-
-slice-aggregate-sheet : tie.Need-slice-aggregate-sheet
-slice-aggregate-sheet c = search needs
-
-sheet-requires : tie.Need-sheet-requires
-sheet-requires c κs = search needs
-
-say-requires : tie.Need-say-requires
-say-requires c κs = search needs
-
-refuse-requires : tie.Need-refuse-requires
-refuse-requires c κs = search needs
 
 returns : tie.Need-returns
 returns c =
@@ -56,7 +46,8 @@ array-share-prefix-table c = within c
 
 slice-aggregate-reply-table : tie.Need-slice-aggregate-reply-table
 slice-aggregate-reply-table c =
-    sym (length-take-le (c .before .before .before .say .result .value) (c .before .before .before .before .before .sheet .last .1 .0) (within (c .before)))
+    sym (length-take-le (c .before .before .before .say .result .value)
+    (c .before .before .before .before .before .sheet .last .1 .0) (within (c .before)))
 
 reply-table-requires : tie.Need-reply-table-requires
 reply-table-requires c κs = c .before .before .before .before .before .before .before .before .before .pre
@@ -77,13 +68,5 @@ returns-2 c =
 pub reply-spec : {M : Type 1} → statement M
 reply-spec =
     tie.close
-    (tie.spec
-    slice-aggregate-sheet
-    sheet-requires
-    say-requires
-    refuse-requires
-    returns
-    array-share-prefix-table
-    slice-aggregate-reply-table
-    reply-table-requires
-    returns-2)
+    (tie.spec (λ c. search needs) (λ c κs. search needs) (λ c κs. search needs) (λ c κs. search needs) returns
+    array-share-prefix-table slice-aggregate-reply-table reply-table-requires returns-2)

@@ -19,22 +19,12 @@ answer k = resultOf (k .before .before .plan .result) (k .before .before .plan .
 
 -- given, the front is within the array
 rows : (c : tie.Else1) →
-    let k = c .before .before in (k .say .result .value ≤ length (k .before .before .plan .last .1 .0)) × Rows planned-width (take (k .say .result .value) (k .before .before .plan .last .1 .0))
+    let k = c .before .before in (k .say .result .value ≤ length (k .before .before .plan .last .1 .0))
+    × Rows planned-width (take (k .say .result .value) (k .before .before .plan .last .1 .0))
 rows c =
     let k = c .before .before in
-    rw (k .say .ensures .2) (plan-rows (k .before .before .before .before .before .before .args .table .now) (answer k) (k .before .before .plan .ensures) (sym (k .say .ensures .0) ∙ c .if1 .left))
-
-slice-aggregate-plan : tie.Need-slice-aggregate-plan
-slice-aggregate-plan c = search needs
-
-plan-requires : tie.Need-plan-requires
-plan-requires c κs = search needs
-
-say-requires : tie.Need-say-requires
-say-requires c κs = search needs
-
-refuse-requires : tie.Need-refuse-requires
-refuse-requires c κs = search needs
+    rw (k .say .ensures .2) (plan-rows (k .before .before .before .before .before .before .args .table .now) (answer k)
+    (k .before .before .plan .ensures) (sym (k .say .ensures .0) ∙ c .if1 .left))
 
 returns : tie.Need-returns
 returns c =
@@ -54,10 +44,14 @@ array-share-prefix-planned c = rows c .0
 
 slice-aggregate-print-planned : tie.Need-slice-aggregate-print-planned
 slice-aggregate-print-planned c =
-    sym (length-take-le (c .before .before .before .say .result .value) (c .before .before .before .before .before .plan .last .1 .0) (rows (c .before) .0))
+    sym (length-take-le (c .before .before .before .say .result .value)
+    (c .before .before .before .before .before .plan .last .1 .0) (rows (c .before) .0))
 
 print-planned-requires : tie.Need-print-planned-requires
-print-planned-requires c κs = (rows (c .before) .1, c .before .before .before .before .before .before .before .before .before .pre)
+print-planned-requires c κs = (
+  rows (c .before) .1,
+  c .before .before .before .before .before .before .before .before .before .pre,
+)
 
 returns-2 : tie.Need-returns-2
 returns-2 c =
@@ -75,13 +69,5 @@ returns-2 c =
 pub reply-table-spec : {M : Type 1} → statement M
 reply-table-spec =
     tie.close
-    (tie.spec
-    slice-aggregate-plan
-    plan-requires
-    say-requires
-    refuse-requires
-    returns
-    array-share-prefix-planned
-    slice-aggregate-print-planned
-    print-planned-requires
-    returns-2)
+    (tie.spec (λ c. search needs) (λ c κs. search needs) (λ c κs. search needs) (λ c κs. search needs) returns
+    array-share-prefix-planned slice-aggregate-print-planned print-planned-requires returns-2)

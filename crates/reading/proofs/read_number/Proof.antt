@@ -27,13 +27,15 @@ abbrev μ-loop : tie.MeasureT-loop
 -- the byte at hand stands behind the digits read
 ahead : (c : tie.In-loop Inv-loop μ-loop) →
     let a = c .before .before .before .args in
-    let l = c .before .loop in drop (a .from .at) (a .text .now) ≡ digits (l .v) ++ (getD (a .text .now) (l .at) 0 ∷ drop (l .at + 1) (a .text .now))
+    let l = c .before .loop in drop (a .from .at) (a .text .now) ≡ digits (l .v)
+    ++ (getD (a .text .now) (l .at) 0 ∷ drop (l .at + 1) (a .text .now))
 ahead c =
     let a = c .before .before .before .args in
     let l = c .before .loop in
     l .inv .3
     ∙ ap (λ (k : List ℕ). digits (l .v) ++ k)
-    (drop-cons (a .text .now) (l .at) 0 (c .loop-test .taken) ∙ ap (λ (n : ℕ). getD (a .text .now) (l .at) 0 ∷ drop n (a .text .now)) (sym (add-one (l .at))))
+    (drop-cons (a .text .now) (l .at) 0 (c .loop-test .taken) ∙ ap
+    (λ (n : ℕ). getD (a .text .now) (l .at) 0 ∷ drop n (a .text .now)) (sym (add-one (l .at))))
 
 -- where it neither goes on with a number nor ends one
 stuck : (c : tie.After-enum-told Inv-loop μ-loop) →
@@ -50,7 +52,8 @@ stuck c none =
       ahead = length (digits (l .v));
       reached = l .inv .2;
       stops =
-          number-stops (s .args .end) (s .pre .3) (s .args .most) (l .v) (drop (s .args .from .at) text) (byte ∷ drop (l .at + 1) text) (s .pre .1) (l .inv .1)
+          number-stops (s .args .end) (s .pre .3) (s .args .most) (l .v) (drop (s .args .from .at) text)
+          (byte ∷ drop (l .at + 1) text) (s .pre .1) (l .inv .1)
           (ahead (c .before .before .before .before))
           byte
           (drop (l .at + 1) text)
@@ -62,21 +65,6 @@ stuck c none =
 loop-holds : tie.Need-loop-holds Inv-loop μ-loop
 loop-holds c = (c .before .pre .0, search needs, omega (arith, ap length digits-zero), rw digits-zero)
 
-shared-slice-read-byte : tie.Need-shared-slice-read-byte Inv-loop μ-loop
-shared-slice-read-byte c = search needs
-
-add-next : tie.Need-add-next Inv-loop μ-loop
-add-next c = search needs
-
-grow-requires : tie.Need-grow-requires Inv-loop μ-loop
-grow-requires c κs = search needs
-
-enum-known-grown : tie.Need-enum-known-grown Inv-loop μ-loop
-enum-known-grown c = search needs
-
-loop-less : tie.Need-loop-less Inv-loop μ-loop
-loop-less c = search needs
-
 loop-again : tie.Need-loop-again Inv-loop μ-loop
 loop-again c =
     let l = c .before .before .before .before .before .before .loop in
@@ -84,28 +72,27 @@ loop-again c =
     let text = s .args .text .now in
     let byte = getD text (l .at) 0 in
     let r = c .before .grown .given .0 .0 in
-    let g = subst (Grows (s .args .most) (l .v) byte) (c .before .grown .given .1) (c .before .before .before .grow .ensures) in
+    let g = subst (Grows (s .args .most) (l .v) byte) (c .before .grown .given .1)
+    (c .before .before .before .grow .ensures) in
     let n =
-    number-grows (l .v) byte r (g .1 .0) (drop (s .args .from .at) text) (drop (l .at + 1) text) (g .0 .low) (g .1 .1) (g .1 .2) (ahead (c .before .before .before .before .before)) in
+    number-grows (l .v) byte r (g .1 .0) (drop (s .args .from .at) text) (drop (l .at + 1) text) (g .0 .low) (g .1 .1)
+    (g .1 .2) (ahead (c .before .before .before .before .before)) in
     (omega arith, g .0 .high, (let q = l .inv .2 in let m = n .1 in omega arith), n .0)
-
-enum-told : tie.Need-enum-told Inv-loop μ-loop
-enum-told c = search needs
 
 returns : tie.Need-returns Inv-loop μ-loop
 returns c =
     let l = c .before .before .before .before .before .before .before .loop in
     let s = c .before .before .before .before .before .before .before .before .before in
-    number-passed (s .args .most) (s .args .end) (l .v) (s .args .text .now) (s .args .from .at) (l .at + 1) (omega arith) (l .inv .1) (omega arith) (let q = l .inv .2 in omega arith)
-    (ahead (c .before .before .before .before .before .before) ∙ ap (λ (b : ℕ). digits (l .v) ++ (b ∷ drop (l .at + 1) (s .args .text .now))) (c .before .if1 .taken))
+    number-passed (s .args .most) (s .args .end) (l .v) (s .args .text .now) (s .args .from .at) (l .at + 1)
+    (omega arith) (l .inv .1) (omega arith) (let q = l .inv .2 in omega arith)
+    (ahead (c .before .before .before .before .before .before) ∙ ap
+    (λ (b : ℕ). digits (l .v) ++ (b ∷ drop (l .at + 1) (s .args .text .now))) (c .before .if1 .taken))
 
 returns-2 : tie.Need-returns-2 Inv-loop μ-loop
-returns-2 c =
-    stuck (c .before .before) (λ _. let z = c .if2 .left in omega arith)
+returns-2 c = stuck (c .before .before) (λ _. let z = c .if2 .left in omega arith)
 
 returns-3 : tie.Need-returns-3 Inv-loop μ-loop
-returns-3 c =
-    stuck (c .before) (λ e. absurd (c .if1 .left e))
+returns-3 c = stuck (c .before) (λ e. absurd (c .if1 .left e))
 
 returns-4 : tie.Need-returns-4 Inv-loop μ-loop
 returns-4 c =
@@ -115,25 +102,14 @@ returns-4 c =
       ahead = length (digits (l .v));
       reached = l .inv .2;
       stops =
-          number-cut (s .args .end) (s .pre .3) (s .args .most) (l .v) (drop (s .args .from .at) (s .args .text .now)) (drop (l .at) (s .args .text .now)) (s .pre .1) (l .inv .1) (l .inv .3)
+          number-cut (s .args .end) (s .pre .3) (s .args .most) (l .v) (drop (s .args .from .at) (s .args .text .now))
+          (drop (l .at) (s .args .text .now)) (s .pre .1) (l .inv .1) (l .inv .3)
           (drop-of-length-le (s .args .text .now) (c .loop-test .left));
     }
 
 pub read-number-spec : {M : Type 1} → statement M
 read-number-spec =
     tie.close
-    (tie.spec
-    Inv-loop
-    μ-loop
-    loop-holds
-    shared-slice-read-byte
-    add-next
-    grow-requires
-    enum-known-grown
-    loop-less
-    loop-again
-    enum-told
-    returns
-    returns-2
-    returns-3
+    (tie.spec Inv-loop μ-loop loop-holds (λ c. search needs) (λ c. search needs) (λ c κs. search needs)
+    (λ c. search needs) (λ c. search needs) loop-again (λ c. search needs) returns returns-2 returns-3
     returns-4)

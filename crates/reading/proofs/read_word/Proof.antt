@@ -22,12 +22,6 @@ abbrev μ-loop : tie.MeasureT-loop
 loop-holds : tie.Need-loop-holds Inv-loop μ-loop
 loop-holds c = (search needs, let p = c .pre in omega arith, refl)
 
-sub-if1 : tie.Need-sub-if1 Inv-loop μ-loop
-sub-if1 c = search needs
-
-add-t9 : tie.Need-add-t9 Inv-loop μ-loop
-add-t9 c = search needs
-
 returns : tie.Need-returns Inv-loop μ-loop
 returns c =
     let s = c .before .before .before in
@@ -40,18 +34,6 @@ returns c =
           (omega (arith, length-drop (s .args .from .at) (s .args .text .now)))
           (c .before .loop-test .taken);
     }
-
-add-if2 : tie.Need-add-if2 Inv-loop μ-loop
-add-if2 c = search needs
-
-shared-slice-read-if2 : tie.Need-shared-slice-read-if2 Inv-loop μ-loop
-shared-slice-read-if2 c = search needs
-
-shared-slice-read-if2-2 : tie.Need-shared-slice-read-if2-2 Inv-loop μ-loop
-shared-slice-read-if2-2 c = search needs
-
-add-t14 : tie.Need-add-t14 Inv-loop μ-loop
-add-t14 c = search needs
 
 returns-2 : tie.Need-returns-2 Inv-loop μ-loop
 returns-2 c =
@@ -67,12 +49,6 @@ returns-2 c =
           (c .before .before .before .before .loop-test .taken)
           (λ e. c .if2 .taken (sym (getD-drop (s .args .from .at) text (l .i) 0) ∙ e));
     }
-
-add-i : tie.Need-add-i Inv-loop μ-loop
-add-i c = search needs
-
-loop-less : tie.Need-loop-less Inv-loop μ-loop
-loop-less c = search needs
 
 loop-again : tie.Need-loop-again Inv-loop μ-loop
 loop-again c =
@@ -91,33 +67,17 @@ loop-again c =
           ∙ sym (take-suc word (l .i) 0 (c .before .before .before .before .loop-test .taken))),
     )
 
-add-t15 : tie.Need-add-t15 Inv-loop μ-loop
-add-t15 c = search needs
-
 returns-3 : tie.Need-returns-3 Inv-loop μ-loop
 returns-3 c =
     let s = c .before .before in
     let l = c .before .loop in
     let e : l .i ≡ length (s .args .word .now) = omega arith in
-    rw e (word-passed (s .args .word .now) (s .args .text .now) (s .args .from .at) (rw e at (l .inv .1)) (rw e at (l .inv .2)))
+    rw e (word-passed (s .args .word .now) (s .args .text .now) (s .args .from .at) (rw e at (l .inv .1))
+    (rw e at (l .inv .2)))
 
 pub read-word-spec : {M : Type 1} → statement M
 read-word-spec =
     tie.close
-    (tie.spec
-    Inv-loop
-    μ-loop
-    loop-holds
-    sub-if1
-    add-t9
-    returns
-    add-if2
-    shared-slice-read-if2
-    shared-slice-read-if2-2
-    add-t14
-    returns-2
-    add-i
-    loop-less
-    loop-again
-    add-t15
-    returns-3)
+    (tie.spec Inv-loop μ-loop loop-holds (λ c. search needs) (λ c. search needs) returns (λ c. search needs)
+    (λ c. search needs) (λ c. search needs) (λ c. search needs) returns-2 (λ c. search needs)
+    (λ c. search needs) loop-again (λ c. search needs) returns-3)

@@ -34,7 +34,8 @@ both P Q =
 pub record Stops (P : Piece) (s : List ℕ) (p : ℕ) : Type 0 where
   pub within : p ≤ length s
   pub begun : (v : P .Value) × P .Allowed v × Begins (take p s) (P .text v)
-  pub no-more : p < length s → (v : P .Value) → P .Allowed v → (y : List ℕ) → Begins (take (suc p) s) (P .text v ++ y) → ⊥
+  pub no-more : p < length s → (v : P .Value) → P .Allowed v → (y : List ℕ) → Begins (take (suc p) s) (P .text v ++ y) →
+      ⊥
   pub no-text : (v : P .Value) → P .Allowed v → (y : List ℕ) → s ≡ P .text v ++ y → ⊥
 
 -- read from the place at on: the text of v, and next is the place behind it

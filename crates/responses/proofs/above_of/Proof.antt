@@ -19,29 +19,11 @@ abbrev μ-loop : tie.MeasureT-loop
 loop-holds : tie.Need-loop-holds Inv-loop μ-loop
 loop-holds c = (search needs, above-none (planOf (c .before .args .plan .now)) (c .before .args .rank))
 
-mul-at : tie.Need-mul-at Inv-loop μ-loop
-mul-at c = search needs
-
-mul-if1 : tie.Need-mul-if1 Inv-loop μ-loop
-mul-if1 c = search needs
-
-shared-slice-read-if1 : tie.Need-shared-slice-read-if1 Inv-loop μ-loop
-shared-slice-read-if1 c = search needs
-
-cast-more : tie.Need-cast-more Inv-loop μ-loop
-cast-more c = search needs
-
 more-requires : tie.Need-more-requires Inv-loop μ-loop
 more-requires c κs =
     let here = c .before .before .before .loop in
     let a = c .before .before .before .before .before .args in
     (omega arith, above-apart (planOf (a .plan .now)) (a .rank) (here .i) (here .set) (here .inv .1))
-
-add-i : tie.Need-add-i Inv-loop μ-loop
-add-i c = search needs
-
-loop-less : tie.Need-loop-less Inv-loop μ-loop
-loop-less c = search needs
 
 loop-again : tie.Need-loop-again Inv-loop μ-loop
 loop-again c =
@@ -50,8 +32,10 @@ loop-again c =
     let p = planOf (a .plan .now) in (
       search needs,
       ⊎-elim
-          (λ w. rw (w .2) (above-more p (a .rank) (here .i) (here .set) (w .1 .result) (here .inv .1) (let g = w .0 .taken in omega arith) (w .1 .ensures)))
-          (λ w. rw (w .1) (above-same p (a .rank) (here .i) (here .set) (here .inv .1) (let g = w .0 .left in omega arith)))
+          (λ w. rw (w .2) (above-more p (a .rank) (here .i) (here .set) (w .1 .result) (here .inv .1)
+          (let g = w .0 .taken in omega arith) (w .1 .ensures)))
+          (λ w. rw (w .1) (above-same p (a .rank) (here .i) (here .set) (here .inv .1)
+          (let g = w .0 .left in omega arith)))
           (c .if1 .came),
     )
 
@@ -63,16 +47,5 @@ returns c =
 pub above-of-spec : {M : Type 1} → statement M
 above-of-spec =
     tie.close
-    (tie.spec
-    Inv-loop
-    μ-loop
-    loop-holds
-    mul-at
-    mul-if1
-    shared-slice-read-if1
-    cast-more
-    more-requires
-    add-i
-    loop-less
-    loop-again
-    returns)
+    (tie.spec Inv-loop μ-loop loop-holds (λ c. search needs) (λ c. search needs) (λ c. search needs)
+    (λ c. search needs) more-requires (λ c. search needs) (λ c. search needs) loop-again returns)

@@ -19,32 +19,8 @@ abbrev μ-loop : tie.MeasureT-loop
 loop-holds : tie.Need-loop-holds Inv-loop μ-loop
 loop-holds c = (search needs, sym (longest-none (planOf (c .args .plan .now)) (c .args .rank)))
 
-mul-at : tie.Need-mul-at Inv-loop μ-loop
-mul-at c = search needs
-
-mul-if1 : tie.Need-mul-if1 Inv-loop μ-loop
-mul-if1 c = search needs
-
-shared-slice-read-if1 : tie.Need-shared-slice-read-if1 Inv-loop μ-loop
-shared-slice-read-if1 c = search needs
-
-add-len : tie.Need-add-len Inv-loop μ-loop
-add-len c = search needs
-
-mul-len : tie.Need-mul-len Inv-loop μ-loop
-mul-len c = search needs
-
-shared-slice-read-len : tie.Need-shared-slice-read-len Inv-loop μ-loop
-shared-slice-read-len c = search needs
-
 cast-len : tie.Need-cast-len Inv-loop μ-loop
 cast-len c = omega (arith, c .shared-slice-known2 .given (2 * c .before .before .before .before .loop .i + 1))
-
-add-i : tie.Need-add-i Inv-loop μ-loop
-add-i c = search needs
-
-loop-less : tie.Need-loop-less Inv-loop μ-loop
-loop-less c = search needs
 
 loop-again : tie.Need-loop-again Inv-loop μ-loop
 loop-again c =
@@ -55,7 +31,8 @@ loop-again c =
       search needs,
       ⊎-elim
           (λ w. omega (arith, more (w .0 .taken), w .2 .taken, w .3))
-          (⊎-elim (λ w. omega (arith, more (w .0 .taken), w .2 .left, w .3)) (λ w. omega (arith, same (w .0 .left), w .1)))
+          (⊎-elim (λ w. omega (arith, more (w .0 .taken), w .2 .left, w .3))
+          (λ w. omega (arith, same (w .0 .left), w .1)))
           (c .if1 .came),
     )
 
@@ -66,13 +43,11 @@ blocked c b e =
     let a = c .before .before .args in
     let here = c .before .loop in
     let all : here .i ≡ a .n = omega arith in
-    blocking-in (planOf (a .plan .now)) (a .rank) (a .n) b (e ∙ ap pred (here .inv .1) ∙ ap (λ m. pred (longest-in (planOf (a .plan .now)) (a .rank) m)) all)
+    blocking-in (planOf (a .plan .now)) (a .rank) (a .n) b
+    (e ∙ ap pred (here .inv .1) ∙ ap (λ m. pred (longest-in (planOf (a .plan .now)) (a .rank) m)) all)
 
 returns : tie.Need-returns Inv-loop μ-loop
 returns c = blocked (c .before) 0 (let t = c .if3 .taken in omega arith)
-
-sub-result : tie.Need-sub-result Inv-loop μ-loop
-sub-result c = search needs
 
 returns-2 : tie.Need-returns-2 Inv-loop μ-loop
 returns-2 c = blocked (c .before) _ (omega arith)
@@ -80,20 +55,6 @@ returns-2 c = blocked (c .before) _ (omega arith)
 pub blocking-of-spec : {M : Type 1} → statement M
 blocking-of-spec =
     tie.close
-    (tie.spec
-    Inv-loop
-    μ-loop
-    loop-holds
-    mul-at
-    mul-if1
-    shared-slice-read-if1
-    add-len
-    mul-len
-    shared-slice-read-len
-    cast-len
-    add-i
-    loop-less
-    loop-again
-    returns
-    sub-result
-    returns-2)
+    (tie.spec Inv-loop μ-loop loop-holds (λ c. search needs) (λ c. search needs) (λ c. search needs)
+    (λ c. search needs) (λ c. search needs) (λ c. search needs) cast-len (λ c. search needs)
+    (λ c. search needs) loop-again returns (λ c. search needs) returns-2)

@@ -87,29 +87,12 @@ module _ (c : tie.After-start Inv-loop μ-loop) where
   abbrev W : Working (tb (A I)) (P (A I)) (S (A I) .args .b) (S (A I) .args .i) (S (A I) .args .q) (L (A I))
   W = working (A I)
 
-  starts : Start (tb (A I)) (P (A I)) (S (A I) .args .b) (S (A I) .args .i) (S (A I) .args .q) (suc (k I)) (c .start .result)
+  starts : Start (tb (A I)) (P (A I)) (S (A I) .args .b) (S (A I) .args .i) (S (A I) .args .q) (suc (k I))
+      (c .start .result)
   starts = rw (add-one (k I)) at (c .start .ensures)
-
-mul-at : tie.Need-mul-at Inv-loop μ-loop
-mul-at c = search needs
-
-mul-run : tie.Need-mul-run Inv-loop μ-loop
-mul-run c = search needs
-
-element-copy-out-run : tie.Need-element-copy-out-run Inv-loop μ-loop
-element-copy-out-run c = search needs
 
 cast-run : tie.Need-cast-run Inv-loop μ-loop
 cast-run c = omega (arith, run (c .before) .high)
-
-add-spacing : tie.Need-add-spacing Inv-loop μ-loop
-add-spacing c = search needs
-
-mul-spacing : tie.Need-mul-spacing Inv-loop μ-loop
-mul-spacing c = search needs
-
-element-copy-out-spacing : tie.Need-element-copy-out-spacing Inv-loop μ-loop
-element-copy-out-spacing c = search needs
 
 cast-spacing : tie.Need-cast-spacing Inv-loop μ-loop
 cast-spacing c = omega (arith, spacing (c .before .before) .high)
@@ -131,7 +114,12 @@ active-period-requires c κs =
         period = w .period;
         active = w .active;
         within = w .within;
-        some = omega (arith, first, active-side-up T (marked (s .args .above)) (s .args .b) (s .args .i) (sound-positive T (p .0 .sound)) (p .2));
+        some = omega (
+          arith,
+          first,
+          active-side-up T (marked (s .args .above)) (s .args .b) (s .args .i)
+              (sound-positive T (p .0 .sound)) (p .2),
+        );
         lower = omega (arith, first, active-first T (marked (s .args .above)) (s .args .b) (s .args .i) (w .active));
       },
     )
@@ -143,7 +131,12 @@ sub-low : tie.Need-sub-low Inv-loop μ-loop
 sub-low c =
     let a = c .before in
     let w = working a in
-    omega (arith, w .most, run-first (tb a) (P a) (S a .args .b) (S a .args .i) (w .positive) (w .row), a .before .active-side .ensures)
+    omega (
+      arith,
+      w .most,
+      run-first (tb a) (P a) (S a .args .b) (S a .args .i) (w .positive) (w .row),
+      a .before .active-side .ensures,
+    )
 
 loop-holds : tie.Need-loop-holds Inv-loop μ-loop
 loop-holds c = (
@@ -152,7 +145,11 @@ loop-holds c = (
   λ s st.
       let a = c .before in
       let w = working a in
-      omega (arith, start-first (tb a) (P a) (S a .args .b) (S a .args .i) (w .positive) (w .row) (w .most) st, a .before .active-side .ensures),
+      omega (
+        arith,
+        start-first (tb a) (P a) (S a .args .b) (S a .args .i) (w .positive) (w .row) (w .most) st,
+        a .before .active-side .ensures,
+      ),
 )
 
 add-start : tie.Need-add-start Inv-loop μ-loop
@@ -185,12 +182,6 @@ add-low c =
     let s = S (A (I d)) in
     omega (arith, job-ends (W d) (k (I d)) (counts (I d)) (starts d), W d .within, run s .high)
 
-add-k : tie.Need-add-k Inv-loop μ-loop
-add-k c = search needs
-
-loop-less : tie.Need-loop-less Inv-loop μ-loop
-loop-less c = search needs
-
 loop-again : tie.Need-loop-again Inv-loop μ-loop
 loop-again c =
     let d = c .before in
@@ -215,29 +206,7 @@ returns c =
 pub response-spec : {M : Type 1} → statement M
 response-spec =
     tie.close
-    (tie.spec
-    Inv-loop
-    μ-loop
-    mul-at
-    mul-run
-    element-copy-out-run
-    cast-run
-    add-spacing
-    mul-spacing
-    element-copy-out-spacing
-    cast-spacing
-    active-side-requires
-    active-period-requires
-    round-up-requires
-    sub-low
-    loop-holds
-    add-start
-    start-requires
-    add-took
-    mul-took
-    sub-took
-    add-low
-    add-k
-    loop-less
-    loop-again
-    returns)
+    (tie.spec Inv-loop μ-loop (λ c. search needs) (λ c. search needs) (λ c. search needs) cast-run
+    (λ c. search needs) (λ c. search needs) (λ c. search needs) cast-spacing active-side-requires
+    active-period-requires round-up-requires sub-low loop-holds add-start start-requires add-took mul-took
+    sub-took add-low (λ c. search needs) (λ c. search needs) loop-again returns)

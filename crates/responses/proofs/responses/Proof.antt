@@ -60,29 +60,8 @@ module _ (c : tie.After-blocking-of Inv-loop μ-loop) where
         under = c .blocking-of .ensures;
       }
 
-asks-of-requires : tie.Need-asks-of-requires Inv-loop μ-loop
-asks-of-requires c κs = search needs
-
 loop-holds : tie.Need-loop-holds Inv-loop μ-loop
 loop-holds c = (search needs, refl, below-none _, λ j _. zeros 32 j)
-
-mul-at : tie.Need-mul-at Inv-loop μ-loop
-mul-at c = search needs
-
-mul-rank : tie.Need-mul-rank Inv-loop μ-loop
-mul-rank c = search needs
-
-shared-slice-read-rank : tie.Need-shared-slice-read-rank Inv-loop μ-loop
-shared-slice-read-rank c = search needs
-
-add-q : tie.Need-add-q Inv-loop μ-loop
-add-q c = search needs
-
-mul-q : tie.Need-mul-q Inv-loop μ-loop
-mul-q c = search needs
-
-shared-slice-read-q : tie.Need-shared-slice-read-q Inv-loop μ-loop
-shared-slice-read-q c = search needs
 
 above-of-requires : tie.Need-above-of-requires Inv-loop μ-loop
 above-of-requires c κs = let p = planned (c .before .before .before .before) in (p .sound .few, p .whole)
@@ -113,18 +92,6 @@ response-requires c κs =
 cast-times : tie.Need-cast-times Inv-loop μ-loop
 cast-times c = omega (arith, response-small (placed (c .before .before)) (c .response .ensures))
 
-mul-times : tie.Need-mul-times Inv-loop μ-loop
-mul-times c = search needs
-
-array-write-times : tie.Need-array-write-times Inv-loop μ-loop
-array-write-times c = search needs
-
-add-i : tie.Need-add-i Inv-loop μ-loop
-add-i c = search needs
-
-loop-less : tie.Need-loop-less Inv-loop μ-loop
-loop-less c = search needs
-
 loop-again : tie.Need-loop-again Inv-loop μ-loop
 loop-again c =
     let d = c .before .before in
@@ -143,7 +110,8 @@ returns c =
     let a = c .before .before in
     let here = c .before .loop in
     record {
-      each = λ j h. plan-response-of (tableIn (s a .args .rows) (s a .args .n)) (same a) (ps a) (here .inv .2 j (omega arith));
+      each = λ j h. plan-response-of (tableIn (s a .args .rows) (s a .args .n)) (same a) (ps a)
+          (here .inv .2 j (omega arith));
       past = λ j h. here .inv .3 j (omega arith);
       whole = here .inv .1;
     }
@@ -151,25 +119,7 @@ returns c =
 pub responses-spec : {M : Type 1} → statement M
 responses-spec =
     tie.close
-    (tie.spec
-    Inv-loop
-    μ-loop
-    asks-of-requires
-    loop-holds
-    mul-at
-    mul-rank
-    shared-slice-read-rank
-    add-q
-    mul-q
-    shared-slice-read-q
-    above-of-requires
-    blocking-of-requires
-    cast-response
-    response-requires
-    cast-times
-    mul-times
-    array-write-times
-    add-i
-    loop-less
-    loop-again
-    returns)
+    (tie.spec Inv-loop μ-loop (λ c κs. search needs) loop-holds (λ c. search needs) (λ c. search needs)
+    (λ c. search needs) (λ c. search needs) (λ c. search needs) (λ c. search needs) above-of-requires
+    blocking-of-requires cast-response response-requires cast-times (λ c. search needs) (λ c. search needs)
+    (λ c. search needs) (λ c. search needs) loop-again returns)

@@ -18,10 +18,12 @@ abbrev μ-loop : tie.MeasureT-loop
 
 module _ (s : tie.Start Inv-loop μ-loop) where
   abbrev side : ℕ → ℕ
-  side = start-side (askingIn (s .args .asks .now) (s .args .n)) (marked (s .args .above)) (s .args .b) (s .args .i) upto (s .args .q) (s .args .k)
+  side = start-side (askingIn (s .args .asks .now) (s .args .n)) (marked (s .args .above)) (s .args .b) (s .args .i)
+      upto (s .args .q) (s .args .k)
 
   mono : Mono side
-  mono = start-side-mono (askingIn (s .args .asks .now) (s .args .n)) (marked (s .args .above)) (s .args .b) (s .args .i) (s .args .q) (s .args .k)
+  mono = start-side-mono (askingIn (s .args .asks .now) (s .args .n)) (marked (s .args .above)) (s .args .b)
+      (s .args .i) (s .args .q) (s .args .k)
 
   -- the iteration never passes the start
   within : {t : ℕ} → Climbing side 0 t → t ≤ horizon
@@ -29,13 +31,16 @@ module _ (s : tie.Start Inv-loop μ-loop) where
 
 -- the next value of the iteration
 next : (c : tie.After-start-side Inv-loop μ-loop) → Climbing (side (c .before .before)) 0 (c .start-side .result)
-next c = let s = c .before .before in rw (c .start-side .ensures) (climbing-step (side s) 0 (c .before .loop .s) (mono s) (c .before .loop .inv))
+next c = let s = c .before .before in rw (c .start-side .ensures)
+    (climbing-step (side s) 0 (c .before .loop .s) (mono s) (c .before .loop .inv))
 
 loop-holds : tie.Need-loop-holds Inv-loop μ-loop
-loop-holds c = let w = c .pre .6 in climbing-below (side c) 0 (c .args .low) (mono c) (omega arith) (w .starts) (omega arith) (w .lower)
+loop-holds c = let w = c .pre .6 in climbing-below (side c) 0 (c .args .low) (mono c) (omega arith) (w .starts)
+    (omega arith) (w .lower)
 
 start-side-requires : tie.Need-start-side-requires Inv-loop μ-loop
-start-side-requires c κs = let p = c .before .pre in (p .0, p .1, p .2, p .3, p .4, p .5, within (c .before) (c .loop .inv))
+start-side-requires c κs = let p = c .before .pre in
+    (p .0, p .1, p .2, p .3, p .4, p .5, within (c .before) (c .loop .inv))
 
 loop-less : tie.Need-loop-less Inv-loop μ-loop
 loop-less c =

@@ -4,17 +4,11 @@ use native.Mathlib.Omega.{arith}
 use Rattle.search.proofs.cap_of.Statement.{statement}
 use Rattle.search.proofs.cap_of.Tie as tie
 
-returns : tie.Need-returns
-returns c = search needs
-
 returns-2 : tie.Need-returns-2
 returns-2 c = (λ z. absurd (c .before .if1 .left z), λ one. omega arith)
-
-sub-result : tie.Need-sub-result
-sub-result c = search needs
 
 returns-3 : tie.Need-returns-3
 returns-3 c = (λ z. absurd (c .before .if1 .left z), λ one. omega arith)
 
 pub cap-of-spec : {M : Type 1} → statement M
-cap-of-spec = tie.close (tie.spec returns returns-2 sub-result returns-3)
+cap-of-spec = tie.close (tie.spec (λ c. search needs) returns-2 (λ c. search needs) returns-3)

@@ -13,8 +13,8 @@ use Rattle.choice.specs.Choice.{Takes, NoneFits}
 use Rattle.search.specs.declared.Pick.{Pick}
 use Rattle.search.specs.declared.Pick.the-variants.{Taken, Nothing}
 
--- a level of a table that has its busy period: some rows are unplaced, those to try are among them, and the blocking and what the
--- unplaced rows ask for is never more than what all rows ask for
+-- a level of a table that has its busy period: some rows are unplaced, those to try are among them, and the blocking
+-- and what the unplaced rows ask for is never more than what all rows ask for
 pub record Searchable (rows : List Row) (n unplaced tried b : ℕ) : Type 0 where
   pub sound : Sound (tableIn rows n)
   pub inside : (j : ℕ) → marked unplaced j ≡ true → j < n
@@ -23,7 +23,8 @@ pub record Searchable (rows : List Row) (n unplaced tried b : ℕ) : Type 0 wher
   pub busy : BusyWithin (tableIn rows n)
   pub room : (t : ℕ) → 1 ≤ t → b + load before (tableIn rows n) (marked unplaced) t ≤ busy-side (tableIn rows n) t
 
--- "The row with the least shortest length takes the rank with that length", and R is its response there; or "no row has a passing length"
+-- "The row with the least shortest length takes the rank with that length", and R is its response there; or "no row has
+-- a passing length"
 abbrev pub Picked : Table → (ℕ → Bool) → ℕ → (ℕ → Bool) → Pick → Type 0
 Picked tb U b tried (Taken y q R) = Takes tb U b tried y q × Response tb (without U y) b y q R
 Picked tb U b tried Nothing = NoneFits tb U b tried

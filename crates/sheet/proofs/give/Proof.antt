@@ -12,26 +12,12 @@ use Rattle.sheet.proofs.give.Tie as tie
 
 -- the limits of the table hold
 clear : (c : tie.After-enum-told2) → Clear (range (c .before .before .before .before .before .args .ticks .now))
-clear c = subst (TableChecked (c .before .before .before .before .before .args .ticks .now)) (c .enum-told2 .given .1) (c .before .before .check-table .ensures) .1
-
-check-table-requires : tie.Need-check-table-requires
-check-table-requires c κs = search needs
-
-enum-told : tie.Need-enum-told
-enum-told c = search needs
-
-enum-known-checked : tie.Need-enum-known-checked
-enum-known-checked c = search needs
-
-enum-told-2 : tie.Need-enum-told-2
-enum-told-2 c = search needs
+clear c = subst (TableChecked (c .before .before .before .before .before .args .ticks .now)) (c .enum-told2 .given .1)
+    (c .before .before .check-table .ensures) .1
 
 returns : tie.Need-returns
 returns c =
     inr (clear (c .before), inl (record { number = refl; place = (refl, omega arith); value = refl; unwritten = refl }))
-
-put-front-requires : tie.Need-put-front-requires
-put-front-requires c κs = search needs
 
 cast-t12 : tie.Need-cast-t12
 cast-t12 c =
@@ -42,16 +28,15 @@ cast-t12 c =
 returns-2 : tie.Need-returns-2
 returns-2 c =
     let s = c .before .before .before .before .before in
-    absurd (subst (TableChecked (s .args .ticks .now)) (c .enum-told .given .1) (c .before .before .check-table .ensures) .1 (s .pre))
+    absurd (subst (TableChecked (s .args .ticks .now)) (c .enum-told .given .1)
+    (c .before .before .check-table .ensures) .1 (s .pre))
 
 returns-3 : tie.Need-returns-3
 returns-3 c =
     let s = c .before .before .before .before .before .before in
-    let h = subst (TableChecked (s .args .ticks .now)) (c .before .checked .given .1) (c .before .before .before .check-table .ensures) in
+    let h = subst (TableChecked (s .args .ticks .now)) (c .before .checked .given .1)
+    (c .before .before .before .check-table .ensures) in
     inl (record { number = refl; place = h .1; value = refl; unwritten = refl })
-
-same-length : tie.Need-same-length
-same-length c = search needs
 
 returns-4 : tie.Need-returns-4
 returns-4 c =
@@ -59,22 +44,16 @@ returns-4 c =
       clear (c .before .before .before .before .before),
       inr (
         λ place h. let g = h .1 in let l = c .before .before .before .before .if1 .left in omega arith,
-        record { number = refl; place = refl; given = record { many = refl; whole = c .before .before .put-front .ensures } },
+        record {
+          number = refl;
+          place = refl;
+          given = record { many = refl; whole = c .before .before .put-front .ensures };
+        },
       ),
     )
 
 pub give-spec : {M : Type 1} → statement M
 give-spec =
     tie.close
-    (tie.spec
-    check-table-requires
-    enum-told
-    enum-known-checked
-    enum-told-2
-    returns
-    put-front-requires
-    cast-t12
-    returns-2
-    returns-3
-    same-length
-    returns-4)
+    (tie.spec (λ c κs. search needs) (λ c. search needs) (λ c. search needs) (λ c. search needs) returns
+    (λ c κs. search needs) cast-t12 returns-2 returns-3 (λ c. search needs) returns-4)

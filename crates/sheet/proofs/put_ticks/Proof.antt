@@ -57,21 +57,12 @@ same-length c = simp length-set
 returns : tie.Need-returns
 returns c =
     let s = c .before .before .before .before in
-    filled (s .args .row .now) (c .before .before .round-up .result) (c .before .round-up2 .result) (c .round-up3 .result) (s .pre .0)
+    filled (s .args .row .now) (c .before .before .round-up .result) (c .before .round-up2 .result)
+    (c .round-up3 .result) (s .pre .0)
     ∙ rw (c .before .before .round-up .ensures, c .before .round-up2 .ensures, c .round-up3 .ensures)
 
 pub put-ticks-spec : {M : Type 1} → statement M
 put-ticks-spec =
     tie.close
-    (tie.spec
-    round-up-requires
-    cast-row
-    slice-write-row
-    round-up-requires-2
-    cast-row-2
-    slice-write-row-2
-    round-up-requires-3
-    cast-row-3
-    slice-write-row-3
-    same-length
-    returns)
+    (tie.spec round-up-requires cast-row slice-write-row round-up-requires-2 cast-row-2 slice-write-row-2
+    round-up-requires-3 cast-row-3 slice-write-row-3 same-length returns)

@@ -7,20 +7,13 @@ use borrow.Author.Needs.{needs}
 use Rattle.sheet.proofs.read_sheet.Statement.{statement}
 use Rattle.sheet.proofs.read_sheet.Tie as tie
 
-read-tick-requires : tie.Need-read-tick-requires
-read-tick-requires c κs = search needs
-
-enum-known-first : tie.Need-enum-known-first
-enum-known-first c = search needs
-
-enum-known-first-2 : tie.Need-enum-known-first-2
-enum-known-first-2 c = search needs
-
 read-tasks-requires : tie.Need-read-tasks-requires
 read-tasks-requires c κs =
     let s = c .before .before .before .before .before .before .before in (
-      front-none (s .args .text .now) (c .before .before .first2 .given .0 .0) (c .before .before .first2 .given .0 .1 .0 .at)
-          (subst (ReadsTick (s .args .text .now)) (c .before .before .first2 .given .1) (c .before .before .before .before .read-tick .ensures)),
+      front-none (s .args .text .now) (c .before .before .first2 .given .0 .0)
+          (c .before .before .first2 .given .0 .1 .0 .at)
+          (subst (ReadsTick (s .args .text .now)) (c .before .before .first2 .given .1)
+          (c .before .before .before .before .read-tick .ensures)),
       s .pre,
     )
 
@@ -28,25 +21,18 @@ returns : tie.Need-returns
 returns c =
     let s = c .before .before .before .before .before .before in
     tick-stuck (s .args .text .now) (c .before .first .given .0 .0)
-    (subst (ReadsTick (s .args .text .now)) (c .before .first .given .1) (c .before .before .before .read-tick .ensures))
-
-same-length : tie.Need-same-length
-same-length c = search needs
+    (subst (ReadsTick (s .args .text .now)) (c .before .first .given .1)
+    (c .before .before .before .read-tick .ensures))
 
 returns-2 : tie.Need-returns-2
 returns-2 c =
     let s = c .before .before .before .before .before .before .before .before .before .before in
     let t = c .before .before .read-tasks in
-    reads-sheet (s .args .text .now) (c .before .before .before .before .before .first2 .given .0 .0) (s .args .table .now) (t .last .1 .1 .1 .0) (t .result) (t .ensures)
+    reads-sheet (s .args .text .now) (c .before .before .before .before .before .first2 .given .0 .0)
+    (s .args .table .now) (t .last .1 .1 .1 .0) (t .result) (t .ensures)
 
 pub read-sheet-spec : {M : Type 1} → statement M
 read-sheet-spec =
     tie.close
-    (tie.spec
-    read-tick-requires
-    enum-known-first
-    enum-known-first-2
-    read-tasks-requires
-    returns
-    same-length
-    returns-2)
+    (tie.spec (λ c κs. search needs) (λ c. search needs) (λ c. search needs) read-tasks-requires returns
+    (λ c. search needs) returns-2)

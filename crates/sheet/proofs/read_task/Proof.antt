@@ -11,22 +11,13 @@ use Rattle.sheet.proofs.read_task.Statement.{statement}
 use Rattle.sheet.proofs.read_task.Tie as tie
 
 -- the word was there
-named : (c : tie.After-known-told2) → Passed (wordPiece (word "task ")) (c .before .before .before .before .before .before .args .text .now) (c .before .before .before .before .before .before .args .from .at) tt (c .before .named2 .given .0 .0 .at)
+named : (c : tie.After-known-told2) → Passed (wordPiece (word "task "))
+    (c .before .before .before .before .before .before .args .text .now)
+    (c .before .before .before .before .before .before .args .from .at) tt (c .before .named2 .given .0 .0 .at)
 named c =
     let a = c .before .before .before .before .before .before .args in
-    subst (ReadsWord (word "task ") (a .text .now) (a .from .at)) (c .before .named2 .given .1) (c .before .before .before .read-word .ensures)
-
-slice-aggregate-read-word : tie.Need-slice-aggregate-read-word
-slice-aggregate-read-word c = search needs
-
-read-word-requires : tie.Need-read-word-requires
-read-word-requires c κs = search needs
-
-enum-known-named : tie.Need-enum-known-named
-enum-known-named c = search needs
-
-enum-known-named-2 : tie.Need-enum-known-named-2
-enum-known-named-2 c = search needs
+    subst (ReadsWord (word "task ") (a .text .now) (a .from .at)) (c .before .named2 .given .1)
+    (c .before .before .before .read-word .ensures)
 
 read-times-requires : tie.Need-read-times-requires
 read-times-requires c κs = named c .within
@@ -36,23 +27,19 @@ returns c =
     let a = c .before .before .before .before .before .before .args in
     alike-stuck task-alike
     (stuck-first (wordPiece (word "task ")) timesPiece
-    (subst (ReadsWord (word "task ") (a .text .now) (a .from .at)) (c .before .named .given .1) (c .before .before .before .read-word .ensures))
+    (subst (ReadsWord (word "task ") (a .text .now) (a .from .at)) (c .before .named .given .1)
+    (c .before .before .before .read-word .ensures))
     (1, (1, 1))
     (one-time, (one-time, one-time)))
 
 returns-2 : tie.Need-returns-2
 returns-2 c =
     let a = c .before .before .before .before .before .before .before .args in
-    reads-task (a .text .now) (a .from .at) (c .before .before .named2 .given .0 .0 .at) (c .read-times .result) (named (c .before)) (c .read-times .ensures)
+    reads-task (a .text .now) (a .from .at) (c .before .before .named2 .given .0 .0 .at) (c .read-times .result)
+    (named (c .before)) (c .read-times .ensures)
 
 pub read-task-spec : {M : Type 1} → statement M
 read-task-spec =
     tie.close
-    (tie.spec
-    slice-aggregate-read-word
-    read-word-requires
-    enum-known-named
-    enum-known-named-2
-    read-times-requires
-    returns
-    returns-2)
+    (tie.spec (λ c. search needs) (λ c κs. search needs) (λ c. search needs) (λ c. search needs)
+    read-times-requires returns returns-2)

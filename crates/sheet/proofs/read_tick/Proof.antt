@@ -12,47 +12,32 @@ use Rattle.sheet.proofs.read_tick.Statement.{statement}
 use Rattle.sheet.proofs.read_tick.Tie as tie
 
 -- the word was there
-named : (c : tie.After-known-told2) → Passed (wordPiece (word "tick ")) (c .before .before .before .before .before .before .args .text .now) 0 tt (c .before .named2 .given .0 .0 .at)
+named : (c : tie.After-known-told2) → Passed (wordPiece (word "tick "))
+    (c .before .before .before .before .before .before .args .text .now) 0 tt (c .before .named2 .given .0 .0 .at)
 named c =
-    subst (ReadsWord (word "tick ") (c .before .before .before .before .before .before .args .text .now) 0) (c .before .named2 .given .1) (c .before .before .before .read-word .ensures)
-
-slice-aggregate-read-word : tie.Need-slice-aggregate-read-word
-slice-aggregate-read-word c = search needs
-
-read-word-requires : tie.Need-read-word-requires
-read-word-requires c κs = search needs
-
-enum-known-named : tie.Need-enum-known-named
-enum-known-named c = search needs
-
-enum-known-named-2 : tie.Need-enum-known-named-2
-enum-known-named-2 c = search needs
+    subst (ReadsWord (word "tick ") (c .before .before .before .before .before .before .args .text .now) 0)
+    (c .before .named2 .given .1) (c .before .before .before .read-word .ensures)
 
 read-number-requires : tie.Need-read-number-requires
-read-number-requires c κs =
-    (named c .within, omega arith, omega arith, omega arith)
+read-number-requires c κs = (named c .within, omega arith, omega arith, omega arith)
 
 returns : tie.Need-returns
 returns c =
     alike-stuck tick-alike
     (stuck-first (wordPiece (word "tick ")) (numberPiece longest-tick 10)
-    (subst (ReadsWord (word "tick ") (c .before .before .before .before .before .before .args .text .now) 0) (c .before .named .given .1) (c .before .before .before .read-word .ensures))
+    (subst (ReadsWord (word "tick ") (c .before .before .before .before .before .before .args .text .now) 0)
+    (c .before .named .given .1) (c .before .before .before .read-word .ensures))
     1
     one-tick)
 
 returns-2 : tie.Need-returns-2
 returns-2 c =
     let s = c .before .before .before .before .before .before .before in
-    reads-tick (s .args .text .now) (c .before .before .named2 .given .0 .0 .at) (c .read-number .result) (named (c .before)) (c .read-number .ensures)
+    reads-tick (s .args .text .now) (c .before .before .named2 .given .0 .0 .at) (c .read-number .result)
+    (named (c .before)) (c .read-number .ensures)
 
 pub read-tick-spec : {M : Type 1} → statement M
 read-tick-spec =
     tie.close
-    (tie.spec
-    slice-aggregate-read-word
-    read-word-requires
-    enum-known-named
-    enum-known-named-2
-    read-number-requires
-    returns
-    returns-2)
+    (tie.spec (λ c. search needs) (λ c κs. search needs) (λ c. search needs) (λ c. search needs)
+    read-number-requires returns returns-2)

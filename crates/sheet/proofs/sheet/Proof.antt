@@ -18,52 +18,50 @@ use Rattle.sheet.proofs.sheet.Tie as tie
 
 -- the whole text was read: the table's front is that of the sheet
 read : (c : tie.After-known-told2) →
-    let s = c .before .before .before .before .before .before .before .before in ReadsSheet (s .args .text .now) (replicate 96 0) (c .before .before .before .before .read-sheet .last .1 .0) (whole.Whole (c .before .got2 .given .0 .0))
+    let s = c .before .before .before .before .before .before .before .before in
+    ReadsSheet (s .args .text .now) (replicate 96 0) (c .before .before .before .before .read-sheet .last .1 .0)
+    (whole.Whole (c .before .got2 .given .0 .0))
 read c =
     let s = c .before .before .before .before .before .before .before .before in
-    subst (ReadsSheet (s .args .text .now) (replicate 96 0) (c .before .before .before .before .read-sheet .last .1 .0)) (c .before .got2 .given .1) (c .before .before .before .before .read-sheet .ensures)
+    subst (ReadsSheet (s .args .text .now) (replicate 96 0) (c .before .before .before .before .read-sheet .last .1 .0))
+    (c .before .got2 .given .1) (c .before .before .before .before .read-sheet .ensures)
 
 front : (c : tie.After-known-told2) →
-    let r = read c in take (3 * c .before .got2 .given .0 .0) (c .before .before .before .before .read-sheet .last .1 .0) ≡ ticksOf (r .0) (r .1)
+    let r = read c in take (3 * c .before .got2 .given .0 .0)
+    (c .before .before .before .before .read-sheet .last .1 .0) ≡ ticksOf (r .0) (r .1)
 front c =
     let r = read c in
-    ticks-front (r .0) (r .1) (c .before .got2 .given .0 .0) (c .before .before .before .before .read-sheet .last .1 .0) (drop (3 * c .before .got2 .given .0 .0) (replicate 96 0)) (r .3) (r .4)
+    ticks-front (r .0) (r .1) (c .before .got2 .given .0 .0) (c .before .before .before .before .read-sheet .last .1 .0)
+    (drop (3 * c .before .got2 .given .0 .0) (replicate 96 0)) (r .3) (r .4)
 
 few : (c : tie.After-known-told2) → 3 * c .before .got2 .given .0 .0 ≤ 96
 few c = let r = read c in let m = r .3 in let f = r .2 .formed .few in omega arith
 
-stuck : (c : tie.After-known-told) → let s = c .before .before .before .before .before .before .before .before in sheet-form (s .args .text .now) .hits (c .before .got .given .0 .0)
+stuck : (c : tie.After-known-told) → let s = c .before .before .before .before .before .before .before .before in
+    sheet-form (s .args .text .now) .hits (c .before .got .given .0 .0)
 stuck c =
     let s = c .before .before .before .before .before .before .before .before in
-    subst (ReadsSheet (s .args .text .now) (replicate 96 0) (c .before .before .before .before .read-sheet .last .1 .0)) (c .before .got .given .1) (c .before .before .before .before .read-sheet .ensures)
-
-slice-aggregate-read-sheet : tie.Need-slice-aggregate-read-sheet
-slice-aggregate-read-sheet c = search needs
-
-read-sheet-requires : tie.Need-read-sheet-requires
-read-sheet-requires c κs = search needs
-
-enum-known-got : tie.Need-enum-known-got
-enum-known-got c = search needs
+    subst (ReadsSheet (s .args .text .now) (replicate 96 0) (c .before .before .before .before .read-sheet .last .1 .0))
+    (c .before .got .given .1) (c .before .before .before .before .read-sheet .ensures)
 
 cast-t10 : tie.Need-cast-t10
 cast-t10 c =
-    let s = c .before .before .before .before .before .before .before .before in omega (arith, place-bound (s .args .text .now) (c .before .got .given .0 .0) (stuck c))
-
-enum-known-got-2 : tie.Need-enum-known-got-2
-enum-known-got-2 c = search needs
+    let s = c .before .before .before .before .before .before .before .before in
+    omega (arith, place-bound (s .args .text .now) (c .before .got .given .0 .0) (stuck c))
 
 mul-table : tie.Need-mul-table
 mul-table c = let f = few c in omega arith
 
 array-share-prefix-table : tie.Need-array-share-prefix-table
-array-share-prefix-table c = let f = few c in let k = c .before .before .before .before .read-sheet .kept .1 .0 in omega arith
+array-share-prefix-table c = let f = few c in let k = c .before .before .before .before .read-sheet .kept .1 .0 in
+    omega arith
 
 slice-aggregate-give : tie.Need-slice-aggregate-give
 slice-aggregate-give c =
     let k = c .before .before .before .before .before .read-sheet .kept .1 .0 in
     let f = few (c .before) in
-    sym (length-take-le (3 * c .before .before .got2 .given .0 .0) (c .before .before .before .before .before .read-sheet .last .1 .0) (omega arith))
+    sym (length-take-le (3 * c .before .before .got2 .given .0 .0)
+    (c .before .before .before .before .before .read-sheet .last .1 .0) (omega arith))
 
 give-requires : tie.Need-give-requires
 give-requires c κs =
@@ -71,11 +69,7 @@ give-requires c κs =
     rw (front (c .before .before)) (ticks-rows (r .0) (r .1) (r .2 .formed))
 
 returns : tie.Need-returns
-returns c =
-    inl (record { number = refl; place = stuck c; value = refl; unwritten = refl })
-
-same-length : tie.Need-same-length
-same-length c = search needs
+returns c = inl (record { number = refl; place = stuck c; value = refl; unwritten = refl })
 
 returns-2 : tie.Need-returns-2
 returns-2 c =
@@ -87,16 +81,6 @@ returns-2 c =
 pub sheet-spec : {M : Type 1} → statement M
 sheet-spec =
     tie.close
-    (tie.spec
-    slice-aggregate-read-sheet
-    read-sheet-requires
-    enum-known-got
-    cast-t10
-    enum-known-got-2
-    mul-table
-    array-share-prefix-table
-    slice-aggregate-give
-    give-requires
-    returns
-    same-length
+    (tie.spec (λ c. search needs) (λ c κs. search needs) (λ c. search needs) cast-t10 (λ c. search needs)
+    mul-table array-share-prefix-table slice-aggregate-give give-requires returns (λ c. search needs)
     returns-2)

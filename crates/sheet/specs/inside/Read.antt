@@ -9,7 +9,8 @@ use Rattle.reading.specs.inside.Piece.{Piece, Passed, numberPiece, both}
 use Rattle.reading.specs.inside.Piece as piece
 use Rattle.reading.specs.declared.NumberRead.{NumberRead}
 use Rattle.reading.specs.declared.NumberRead.the-variants as number
-use Rattle.sheet.specs.Sheet.{Task, longest-tick, longest-time, tickLine, taskLine, TaskWithin, TasksWithin, sheetText, Sheet, ticksOf}
+use Rattle.sheet.specs.Sheet.{Task, longest-tick, longest-time, tickLine, taskLine, TaskWithin, TasksWithin}
+use Rattle.sheet.specs.Sheet.{sheetText, Sheet, ticksOf}
 use Rattle.sheet.specs.Answers.{sheet-form}
 use Rattle.sheet.specs.declared.Times.{Times}
 use Rattle.sheet.specs.declared.LineRead.{LineRead}
@@ -64,5 +65,6 @@ ReadsTasks s tick before table (sheet.Stuck place) = sheet-form s .hits place
 
 abbrev pub ReadsSheet : List ℕ → List ℕ → List ℕ → SheetRead → Type 0
 ReadsSheet s before table (sheet.Whole n) =
-    (tick : ℕ) × (ts : List Task) × Sheet s tick ts × (length ts ≡ n) × (table ≡ ticksOf tick ts ++ drop (row-width * n) before)
+    (tick : ℕ) × (ts : List Task) × Sheet s tick ts × (length ts ≡ n)
+    × (table ≡ ticksOf tick ts ++ drop (row-width * n) before)
 ReadsSheet s before table (sheet.Stuck place) = sheet-form s .hits place

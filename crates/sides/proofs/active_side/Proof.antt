@@ -33,29 +33,11 @@ own : (c : tie.After-round-up) → let s = c .before .before in
     c .round-up .result * tb s .C (s .args .i) ≡ before (s .args .t) (tb s .T (s .args .i)) * tb s .C (s .args .i)
 own c = let s = c .before .before in ap (λ u. u * tb s .C (s .args .i)) (c .round-up .ensures)
 
-mul-at : tie.Need-mul-at
-mul-at c = search needs
-
-add-round-up : tie.Need-add-round-up
-add-round-up c = search needs
-
-mul-round-up : tie.Need-mul-round-up
-mul-round-up c = search needs
-
-element-copy-out-round-up : tie.Need-element-copy-out-round-up
-element-copy-out-round-up c = search needs
-
 cast-round-up : tie.Need-cast-round-up
 cast-round-up c = omega (arith, spaced (c .before) .high)
 
 round-up-requires : tie.Need-round-up-requires
 round-up-requires c κs = (spaced (c .before) .low, omega (arith, spaced (c .before) .high, c .before .pre .3))
-
-mul-result : tie.Need-mul-result
-mul-result c = search needs
-
-element-copy-out-result : tie.Need-element-copy-out-result
-element-copy-out-result c = search needs
 
 cast-result : tie.Need-cast-result
 cast-result c = omega (arith, runs (c .before .before .before) .high)
@@ -66,9 +48,6 @@ mul-result-2 c = omega (arith, part (c .before .before .before), own (c .before)
 add-result : tie.Need-add-result
 add-result c = omega (arith, part (c .before .before .before), own (c .before))
 
-load-requires : tie.Need-load-requires
-load-requires c κs = search needs
-
 add-result-2 : tie.Need-add-result-2
 add-result-2 c =
     let s = c .before .before .before .before in
@@ -77,23 +56,17 @@ add-result-2 c =
 returns : tie.Need-returns
 returns c =
     let s = c .before .before .before .before in
-    omega (arith, own (c .before .before), c .load .ensures, active-side-is (tb s) (marked (s .args .above)) (s .args .b) (s .args .i) (s .args .t))
+    omega (
+      arith,
+      own (c .before .before),
+      c .load .ensures,
+      active-side-is (tb s) (marked (s .args .above))
+          (s .args .b) (s .args .i) (s .args .t),
+    )
 
 pub active-side-spec : {M : Type 1} → statement M
 active-side-spec =
     tie.close
-    (tie.spec
-    mul-at
-    add-round-up
-    mul-round-up
-    element-copy-out-round-up
-    cast-round-up
-    round-up-requires
-    mul-result
-    element-copy-out-result
-    cast-result
-    mul-result-2
-    add-result
-    load-requires
-    add-result-2
-    returns)
+    (tie.spec (λ c. search needs) (λ c. search needs) (λ c. search needs) (λ c. search needs) cast-round-up
+    round-up-requires (λ c. search needs) (λ c. search needs) cast-result mul-result-2 add-result
+    (λ c κs. search needs) add-result-2 returns)

@@ -14,40 +14,17 @@ abbrev μ-loop : tie.MeasureT-loop
 μ-loop rows asks₀ i₀ asks i = 32 - i
 
 loop-holds : tie.Need-loop-holds Inv-loop μ-loop
-loop-holds c = (search needs, record { whole = refl; runs = λ k h. absurd (omega arith); spacings = λ k h. absurd (omega arith) })
-
-mul-row : tie.Need-mul-row Inv-loop μ-loop
-mul-row c = search needs
-
-array-copy-out-row : tie.Need-array-copy-out-row Inv-loop μ-loop
-array-copy-out-row c = search needs
-
-mul-at : tie.Need-mul-at Inv-loop μ-loop
-mul-at c = search needs
-
-mul-asks : tie.Need-mul-asks Inv-loop μ-loop
-mul-asks c = search needs
-
-array-write-asks : tie.Need-array-write-asks Inv-loop μ-loop
-array-write-asks c = search needs
-
-add-asks : tie.Need-add-asks Inv-loop μ-loop
-add-asks c = search needs
-
-mul-asks-2 : tie.Need-mul-asks-2 Inv-loop μ-loop
-mul-asks-2 c = search needs
-
-array-write-asks-2 : tie.Need-array-write-asks-2 Inv-loop μ-loop
-array-write-asks-2 c = search needs
-
-add-i : tie.Need-add-i Inv-loop μ-loop
-add-i c = search needs
-
-loop-less : tie.Need-loop-less Inv-loop μ-loop
-loop-less c = search needs
+loop-holds c = (
+  search needs,
+  record { whole = refl; runs = λ k h. absurd (omega arith); spacings = λ k h. absurd (omega arith) },
+)
 
 loop-again : tie.Need-loop-again Inv-loop μ-loop
-loop-again c = (search needs, stored-more (c .before .before .before .args .t1) (c .before .before .loop .asks) (c .before .before .loop .i) (c .before .loop-test .taken) (c .before .before .loop .inv .1))
+loop-again c = (
+  search needs,
+  stored-more (c .before .before .before .args .t1) (c .before .before .loop .asks)
+      (c .before .before .loop .i) (c .before .loop-test .taken) (c .before .before .loop .inv .1),
+)
 
 returns : tie.Need-returns Inv-loop μ-loop
 returns c =
@@ -57,19 +34,6 @@ returns c =
 pub asks-of-spec : {M : Type 1} → statement M
 asks-of-spec =
     tie.close
-    (tie.spec
-    Inv-loop
-    μ-loop
-    loop-holds
-    mul-row
-    array-copy-out-row
-    mul-at
-    mul-asks
-    array-write-asks
-    add-asks
-    mul-asks-2
-    array-write-asks-2
-    add-i
-    loop-less
-    loop-again
-    returns)
+    (tie.spec Inv-loop μ-loop loop-holds (λ c. search needs) (λ c. search needs) (λ c. search needs)
+    (λ c. search needs) (λ c. search needs) (λ c. search needs) (λ c. search needs) (λ c. search needs)
+    (λ c. search needs) (λ c. search needs) loop-again returns)

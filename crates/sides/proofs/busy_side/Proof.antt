@@ -9,16 +9,12 @@ use Rattle.sides.specs.inside.Asks.{askingIn}
 use Rattle.sides.proofs.busy_side.Statement.{statement}
 use Rattle.sides.proofs.busy_side.Tie as tie
 
-cast-whole : tie.Need-cast-whole
-cast-whole c = search needs
-
-whole-requires : tie.Need-whole-requires
-whole-requires c κs = search needs
-
 load-requires : tie.Need-load-requires
 load-requires c κs =
-    let n = c .before .args .n in
-    (record { sound = c .before .pre .0; inside = λ j e. ltb-true j n (sym (c .whole .ensures j) ∙ e) }, c .before .pre .1)
+    let n = c .before .args .n in (
+      record { sound = c .before .pre .0; inside = λ j e. ltb-true j n (sym (c .whole .ensures j) ∙ e) },
+      c .before .pre .1,
+    )
 
 returns : tie.Need-returns
 unfolding busy-side
@@ -26,7 +22,8 @@ returns c =
     let s = c .before .before in
     let e = c .before .whole .ensures in
     c .load .ensures
-    ∙ load-ext (askingIn (s .args .asks .now) (s .args .n)) before (marked (c .before .whole .result)) every-row (λ j l. e j ∙ lt-ltb j (s .args .n) l) (s .args .t)
+    ∙ load-ext (askingIn (s .args .asks .now) (s .args .n)) before (marked (c .before .whole .result)) every-row
+    (λ j l. e j ∙ lt-ltb j (s .args .n) l) (s .args .t)
 
 pub busy-side-spec : {M : Type 1} → statement M
-busy-side-spec = tie.close (tie.spec cast-whole whole-requires load-requires returns)
+busy-side-spec = tie.close (tie.spec (λ c. search needs) (λ c κs. search needs) load-requires returns)

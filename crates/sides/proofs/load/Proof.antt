@@ -47,41 +47,22 @@ module _ (a : tie.After-next Inv-loop μ-loop) where
       omega (
         arith,
         a .before .before .loop .inv .total,
-        load-small tb (a .before .before .before .pre .0 .sound) t (a .before .before .before .pre .1) (marked (a .before .before .before .args .set)),
+        load-small tb (a .before .before .before .pre .0 .sound) t (a .before .before .before .pre .1)
+            (marked (a .before .before .before .args .set)),
       )
 
 loop-holds : tie.Need-loop-holds Inv-loop μ-loop
 loop-holds c = walked-none _ _ _ (c .pre .0 .inside)
 
-next-requires : tie.Need-next-requires Inv-loop μ-loop
-next-requires c κs = search needs
-
-cast-at : tie.Need-cast-at Inv-loop μ-loop
-cast-at c = search needs
-
-mul-at : tie.Need-mul-at Inv-loop μ-loop
-mul-at c = search needs
-
-add-round-up : tie.Need-add-round-up Inv-loop μ-loop
-add-round-up c = search needs
-
-mul-round-up : tie.Need-mul-round-up Inv-loop μ-loop
-mul-round-up c = search needs
-
-element-copy-out-round-up : tie.Need-element-copy-out-round-up Inv-loop μ-loop
-element-copy-out-round-up c = search needs
-
 cast-round-up : tie.Need-cast-round-up Inv-loop μ-loop
 cast-round-up c = omega (arith, spaced (c .before) .high)
 
 round-up-requires : tie.Need-round-up-requires Inv-loop μ-loop
-round-up-requires c κs = (spaced (c .before) .low, omega (arith, spaced (c .before) .high, c .before .before .before .before .pre .1))
-
-mul-sum : tie.Need-mul-sum Inv-loop μ-loop
-mul-sum c = search needs
-
-element-copy-out-sum : tie.Need-element-copy-out-sum Inv-loop μ-loop
-element-copy-out-sum c = search needs
+round-up-requires c κs = (
+  spaced (c .before) .low,
+  omega
+      (arith, spaced (c .before) .high, c .before .before .before .before .pre .1),
+)
 
 cast-sum : tie.Need-cast-sum Inv-loop μ-loop
 cast-sum c = omega (arith, runs (c .before .before .before) .high)
@@ -99,14 +80,12 @@ add-sum c =
 less-requires : tie.Need-less-requires Inv-loop μ-loop
 less-requires c κs = let n = c .before .before .before .next .ensures in (n .inside, n .first .holds)
 
-loop-less : tie.Need-loop-less Inv-loop μ-loop
-loop-less c = search needs
-
 loop-again : tie.Need-loop-again Inv-loop μ-loop
 loop-again c =
     let a = c .before .before .before .before in
     rw (c .before .before .round-up .ensures)
-    (walked-more (tb a) (a .before .before .before .args .set) (t a) (a .before .before .loop .inv) (a .next .ensures) (c .less .ensures))
+    (walked-more (tb a) (a .before .before .before .args .set) (t a) (a .before .before .loop .inv) (a .next .ensures)
+    (c .less .ensures))
 
 returns : tie.Need-returns Inv-loop μ-loop
 returns c = walked-all _ _ _ (c .before .loop .inv) (c .loop-test .left)
@@ -114,24 +93,7 @@ returns c = walked-all _ _ _ (c .before .loop .inv) (c .loop-test .left)
 pub load-spec : {M : Type 1} → statement M
 load-spec =
     tie.close
-    (tie.spec
-    Inv-loop
-    μ-loop
-    loop-holds
-    next-requires
-    cast-at
-    mul-at
-    add-round-up
-    mul-round-up
-    element-copy-out-round-up
-    cast-round-up
-    round-up-requires
-    mul-sum
-    element-copy-out-sum
-    cast-sum
-    mul-sum-2
-    add-sum
-    less-requires
-    loop-less
-    loop-again
-    returns)
+    (tie.spec Inv-loop μ-loop loop-holds (λ c κs. search needs) (λ c. search needs) (λ c. search needs)
+    (λ c. search needs) (λ c. search needs) (λ c. search needs) cast-round-up round-up-requires
+    (λ c. search needs) (λ c. search needs) cast-sum mul-sum-2 add-sum less-requires (λ c. search needs)
+    loop-again returns)

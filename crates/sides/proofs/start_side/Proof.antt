@@ -32,15 +32,6 @@ others c =
     let h = s .pre .6 in
     rw (c .load .ensures) (load-small (tb s) (s .pre .0 .sound) _ (omega arith) (marked (s .args .above)))
 
-mul-at : tie.Need-mul-at
-mul-at c = search needs
-
-mul-result : tie.Need-mul-result
-mul-result c = search needs
-
-element-copy-out-result : tie.Need-element-copy-out-result
-element-copy-out-result c = search needs
-
 cast-result : tie.Need-cast-result
 cast-result c = let s = c .before in omega (arith, s .pre .0 .sound .C (s .args .i) (s .pre .2) .high)
 
@@ -52,12 +43,6 @@ sub-result c = omega (arith, whole (c .before))
 
 add-result : tie.Need-add-result
 add-result c = omega (arith, runs-small (c .before))
-
-add-load : tie.Need-add-load
-add-load c = search needs
-
-load-requires : tie.Need-load-requires
-load-requires c κs = search needs
 
 add-result-2 : tie.Need-add-result-2
 add-result-2 c =
@@ -79,15 +64,5 @@ returns c =
 pub start-side-spec : {M : Type 1} → statement M
 start-side-spec =
     tie.close
-    (tie.spec
-    mul-at
-    mul-result
-    element-copy-out-result
-    cast-result
-    mul-result-2
-    sub-result
-    add-result
-    add-load
-    load-requires
-    add-result-2
-    returns)
+    (tie.spec (λ c. search needs) (λ c. search needs) (λ c. search needs) cast-result mul-result-2 sub-result
+    add-result (λ c. search needs) (λ c κs. search needs) add-result-2 returns)

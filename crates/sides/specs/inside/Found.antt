@@ -11,7 +11,8 @@ abbrev pub BusyFound : Table → Busy → Type 0
 BusyFound tb (At t) = BusyPeriod tb t × (t ≤ horizon)
 BusyFound tb Beyond = BusyWithin tb → ⊥
 
--- row i with blocking b, the rows at which P passes above it, has an active period up to H, and low is at least 1 and does not pass it
+-- row i with blocking b, the rows at which P passes above it, has an active period up to H, and low is at least 1 and
+-- does not pass it
 pub record ActiveWithin (tb : Table) (P : ℕ → Bool) (b i low : ℕ) : Type 0 where
   pub period : ℕ
   pub active : Active tb P b i period

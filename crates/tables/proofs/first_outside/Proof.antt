@@ -17,31 +17,32 @@ abbrev μ-loop : tie.MeasureT-loop
 loop-holds : tie.Need-loop-holds Inv-loop μ-loop
 loop-holds c = (search needs, below-none _)
 
-mul-x : tie.Need-mul-x Inv-loop μ-loop
-mul-x c = search needs
-
-shared-slice-read-x : tie.Need-shared-slice-read-x Inv-loop μ-loop
-shared-slice-read-x c = search needs
-
 returns : tie.Need-returns Inv-loop μ-loop
 returns c =
     let here = c .before .before .before .loop in
-    record { inside = omega arith; within = here .inv .1; outside = λ _ w. let l = w .low in let t = c .if1 .taken in omega arith }
+    record {
+      inside = omega arith;
+      within = here .inv .1;
+      outside = λ _ w. let l = w .low in let t = c .if1 .taken in
+          omega arith;
+    }
 
 returns-2 : tie.Need-returns-2 Inv-loop μ-loop
 returns-2 c =
     let here = c .before .before .before .before .loop in
-    record { inside = omega arith; within = here .inv .1; outside = λ _ w. let l = w .high in let t = c .if2 .taken in omega arith }
-
-add-at : tie.Need-add-at Inv-loop μ-loop
-add-at c = search needs
-
-loop-less : tie.Need-loop-less Inv-loop μ-loop
-loop-less c = search needs
+    record {
+      inside = omega arith;
+      within = here .inv .1;
+      outside = λ _ w. let l = w .high in let t = c .if2 .taken in
+          omega arith;
+    }
 
 loop-again : tie.Need-loop-again Inv-loop μ-loop
-loop-again c =
-    (search needs, below-more _ _ (c .before .before .before .before .loop .inv .1) (record { low = omega arith; high = omega arith }))
+loop-again c = (
+  search needs,
+  below-more _ _ (c .before .before .before .before .loop .inv .1)
+      (record { low = omega arith; high = omega arith }),
+)
 
 returns-3 : tie.Need-returns-3 Inv-loop μ-loop
 returns-3 c = record { inside = omega arith; within = c .before .loop .inv .1; outside = λ l. absurd (omega arith) }
@@ -49,15 +50,5 @@ returns-3 c = record { inside = omega arith; within = c .before .loop .inv .1; o
 pub first-outside-spec : {M : Type 1} → statement M
 first-outside-spec =
     tie.close
-    (tie.spec
-    Inv-loop
-    μ-loop
-    loop-holds
-    mul-x
-    shared-slice-read-x
-    returns
-    returns-2
-    add-at
-    loop-less
-    loop-again
-    returns-3)
+    (tie.spec Inv-loop μ-loop loop-holds (λ c. search needs) (λ c. search needs) returns returns-2
+    (λ c. search needs) (λ c. search needs) loop-again returns-3)

@@ -5,20 +5,12 @@ use Rattle.templetbark.proofs.Said.{said}
 use Rattle.templetbark.proofs.tb_plan.Statement.{statement}
 use Rattle.templetbark.proofs.tb_plan.Tie as tie
 
-plan-requires : tie.Need-plan-requires
-plan-requires c κs = search needs
-
-say-requires : tie.Need-say-requires
-say-requires c κs = search needs
-
-same-length : tie.Need-same-length
-same-length c = search needs
-
 returns : tie.Need-returns
 returns c =
     let t = c .before .before .before in
     let a = t .before .before .before .before .args in
-    said (PlanAnswer (a .table .now) (a .out .now)) (t .plan .result) (c .say .result) _ (c .say .ensures) (t .plan .ensures)
+    said (PlanAnswer (a .table .now) (a .out .now)) (t .plan .result) (c .say .result) _ (c .say .ensures)
+    (t .plan .ensures)
 
 pub tb-plan-spec : {M : Type 1} → statement M
-tb-plan-spec = tie.close (tie.spec plan-requires say-requires same-length returns)
+tb-plan-spec = tie.close (tie.spec (λ c κs. search needs) (λ c κs. search needs) (λ c. search needs) returns)

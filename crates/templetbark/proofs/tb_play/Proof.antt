@@ -5,20 +5,12 @@ use Rattle.templetbark.proofs.Said.{said}
 use Rattle.templetbark.proofs.tb_play.Statement.{statement}
 use Rattle.templetbark.proofs.tb_play.Tie as tie
 
-play-requires : tie.Need-play-requires
-play-requires c κs = search needs
-
-say-requires : tie.Need-say-requires
-say-requires c κs = search needs
-
-same-length : tie.Need-same-length
-same-length c = search needs
-
 returns : tie.Need-returns
 returns c =
     let t = c .before .before .before in
     let a = t .before .before .before .before .before .before .args in
-    said (PlayAnswer (a .table .now) (a .plan .now) (a .jobs .now) (a .out .now)) (t .play .result) (c .say .result) _ (c .say .ensures) (t .play .ensures)
+    said (PlayAnswer (a .table .now) (a .plan .now) (a .jobs .now) (a .out .now)) (t .play .result) (c .say .result) _
+    (c .say .ensures) (t .play .ensures)
 
 pub tb-play-spec : {M : Type 1} → statement M
-tb-play-spec = tie.close (tie.spec play-requires say-requires same-length returns)
+tb-play-spec = tie.close (tie.spec (λ c κs. search needs) (λ c κs. search needs) (λ c. search needs) returns)

@@ -5,20 +5,12 @@ use Rattle.templetbark.proofs.Said.{said}
 use Rattle.templetbark.proofs.tb_times.Statement.{statement}
 use Rattle.templetbark.proofs.tb_times.Tie as tie
 
-times-requires : tie.Need-times-requires
-times-requires c κs = search needs
-
-say-requires : tie.Need-say-requires
-say-requires c κs = search needs
-
-same-length : tie.Need-same-length
-same-length c = search needs
-
 returns : tie.Need-returns
 returns c =
     let t = c .before .before .before in
     let a = t .before .before .before .before .before .args in
-    said (TimesAnswer (a .table .now) (a .plan .now) (a .out .now)) (t .times .result) (c .say .result) _ (c .say .ensures) (t .times .ensures)
+    said (TimesAnswer (a .table .now) (a .plan .now) (a .out .now)) (t .times .result) (c .say .result) _
+    (c .say .ensures) (t .times .ensures)
 
 pub tb-times-spec : {M : Type 1} → statement M
-tb-times-spec = tie.close (tie.spec times-requires say-requires same-length returns)
+tb-times-spec = tie.close (tie.spec (λ c κs. search needs) (λ c κs. search needs) (λ c. search needs) returns)

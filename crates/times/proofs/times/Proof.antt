@@ -16,18 +16,6 @@ use Rattle.times.proofs.Answers.{times-shape, times-range, times-rest}
 use Rattle.times.proofs.times.Statement.{statement}
 use Rattle.times.proofs.times.Tie as tie
 
-check-table-requires : tie.Need-check-table-requires
-check-table-requires c κs = search needs
-
-enum-told : tie.Need-enum-told
-enum-told c = search needs
-
-enum-known-checked : tie.Need-enum-known-checked
-enum-known-checked c = search needs
-
-enum-known-checked-2 : tie.Need-enum-known-checked-2
-enum-known-checked-2 c = search needs
-
 -- the table is sound
 module _ (c : tie.After-known-told2) where
   abbrev start : tie.Start
@@ -55,37 +43,28 @@ returns : tie.Need-returns
 returns c =
     let e = c .before .before in
     let s = e .before .before .before .before in
-    times-shape (s .args .table .now) (s .args .plan .now) (s .args .out .now) (subst (TableChecked (s .args .table .now)) (c .enum-told .given .1) (e .check-table .ensures))
+    times-shape (s .args .table .now) (s .args .plan .now) (s .args .out .now)
+    (subst (TableChecked (s .args .table .now)) (c .enum-told .given .1) (e .check-table .ensures))
 
 returns-2 : tie.Need-returns-2
 returns-2 c =
     let e = c .before .before .before in
     let s = e .before .before .before .before in
     let h = subst (TableChecked (s .args .table .now)) (c .before .checked .given .1) (e .check-table .ensures) in
-    times-range (s .args .table .now) (s .args .plan .now) (s .args .out .now) (c .before .checked .given .0 .0) (h .0) (h .1)
-
-same-length : tie.Need-same-length
-same-length c = search needs
+    times-range (s .args .table .now) (s .args .plan .now) (s .args .out .now) (c .before .checked .given .0 .0) (h .0)
+    (h .1)
 
 returns-3 : tie.Need-returns-3
 returns-3 c =
     let t = c .before .before in
     let r = t .before .before in
     let k = r .before in
-    times-rest (xs k) (start k .args .plan .now) (start k .args .out .now) (tableIn (r .rows-of .result) (n k)) (resultOf (t .times-of .result) (t .times-of .last .1 .1 .1 .0)) (clear k .0) (clear k .1)
+    times-rest (xs k) (start k .args .plan .now) (start k .args .out .now) (tableIn (r .rows-of .result) (n k))
+    (resultOf (t .times-of .result) (t .times-of .last .1 .1 .1 .0)) (clear k .0) (clear k .1)
     (r .rows-of .ensures) (t .times-of .ensures)
 
 pub times-spec : {M : Type 1} → statement M
 times-spec =
     tie.close
-    (tie.spec
-    check-table-requires
-    enum-told
-    enum-known-checked
-    enum-known-checked-2
-    rows-of-requires
-    times-of-requires
-    returns
-    returns-2
-    same-length
-    returns-3)
+    (tie.spec (λ c κs. search needs) (λ c. search needs) (λ c. search needs) (λ c. search needs)
+    rows-of-requires times-of-requires returns returns-2 (λ c. search needs) returns-3)

@@ -14,12 +14,6 @@ use Rattle.times.proofs.Answers.{planned, times-plan, times-room, times
 use Rattle.times.proofs.times_of.Statement.{statement}
 use Rattle.times.proofs.times_of.Tie as tie
 
-check-plan-requires : tie.Need-check-plan-requires
-check-plan-requires c κs = search needs
-
-enum-known-form : tie.Need-enum-known-form
-enum-known-form c = search needs
-
 module _ (s : tie.Start) where
   abbrev tb : Table
   tb = tableIn (s .args .rows) (s .args .n)
@@ -49,42 +43,25 @@ returns : tie.Need-returns
 returns c =
     let e = c .before .before .before in
     let s = e .before .before .before in
-    times-plan (tableIn (s .args .rows) (s .args .n)) (s .args .plan .now) (s .args .out .now) (c .before .form .given .0 .0)
-    (subst (PlanChecked (tableIn (s .args .rows) (s .args .n)) (s .args .plan .now)) (c .before .form .given .1) (e .check-plan .ensures))
-
-enum-told : tie.Need-enum-told
-enum-told c = search needs
+    times-plan (tableIn (s .args .rows) (s .args .n)) (s .args .plan .now) (s .args .out .now)
+    (c .before .form .given .0 .0)
+    (subst (PlanChecked (tableIn (s .args .rows) (s .args .n)) (s .args .plan .now)) (c .before .form .given .1)
+    (e .check-plan .ensures))
 
 returns-2 : tie.Need-returns-2
-returns-2 c = let s = start (c .before) in times-room (tb s) (ps s) (s .args .out .now) (form (c .before)) (c .if1 .taken)
-
-busy-period-requires : tie.Need-busy-period-requires
-busy-period-requires c κs = search needs
-
-enum-told-2 : tie.Need-enum-told-2
-enum-told-2 c = search needs
+returns-2 c = let s = start (c .before) in times-room (tb s) (ps s) (s .args .out .now) (form (c .before))
+    (c .if1 .taken)
 
 returns-3 : tie.Need-returns-3
 returns-3 c =
     let b = c .before .before in
     let d = b .before .before in
     let s = start d in
-    times-busy (tb s) (ps s) (s .args .out .now) (form d) (b .before .if1 .left) (subst (BusyFound (tb s)) (c .enum-told2 .given .1) (b .busy-period .ensures))
-
-enum-told-3 : tie.Need-enum-told-3
-enum-told-3 c = search needs
+    times-busy (tb s) (ps s) (s .args .out .now) (form d) (b .before .if1 .left)
+    (subst (BusyFound (tb s)) (c .enum-told2 .given .1) (b .busy-period .ensures))
 
 responses-requires : tie.Need-responses-requires
 responses-requires c κs = let s = start (D c) in planned (tb s) (ps s) (s .pre) (form (D c)) (busy c)
-
-write-requires : tie.Need-write-requires
-write-requires c κs = search needs
-
-cast-t14 : tie.Need-cast-t14
-cast-t14 c = search needs
-
-same-length : tie.Need-same-length
-same-length c = search needs
 
 returns-4 : tie.Need-returns-4
 returns-4 c =
@@ -92,24 +69,13 @@ returns-4 c =
     let r = w .before .before in
     let b = r .before in
     let s = start (D b) in
-    times-given (tb s) (ps s) (s .args .out .now) (form (D b)) (b .before .before .before .if1 .left) (s .pre) (busy b) (r .responses .result) (w .write .last .1 .1 .0)
+    times-given (tb s) (ps s) (s .args .out .now) (form (D b)) (b .before .before .before .if1 .left) (s .pre) (busy b)
+    (r .responses .result) (w .write .last .1 .1 .0)
     (r .responses .ensures) (w .write .ensures)
 
 pub times-of-spec : {M : Type 1} → statement M
 times-of-spec =
     tie.close
-    (tie.spec
-    check-plan-requires
-    enum-known-form
-    returns
-    enum-told
-    returns-2
-    busy-period-requires
-    enum-told-2
-    returns-3
-    enum-told-3
-    responses-requires
-    write-requires
-    cast-t14
-    same-length
-    returns-4)
+    (tie.spec (λ c κs. search needs) (λ c. search needs) returns (λ c. search needs) returns-2
+    (λ c κs. search needs) (λ c. search needs) returns-3 (λ c. search needs) responses-requires
+    (λ c κs. search needs) (λ c. search needs) (λ c. search needs) returns-4)

@@ -16,18 +16,6 @@ use Rattle.times.proofs.Answers.{verdict-shape, verdict-range, verdict-
 use Rattle.times.proofs.verdict.Statement.{statement}
 use Rattle.times.proofs.verdict.Tie as tie
 
-check-table-requires : tie.Need-check-table-requires
-check-table-requires c κs = search needs
-
-enum-told : tie.Need-enum-told
-enum-told c = search needs
-
-enum-known-checked : tie.Need-enum-known-checked
-enum-known-checked c = search needs
-
-enum-known-checked-2 : tie.Need-enum-known-checked-2
-enum-known-checked-2 c = search needs
-
 -- the table is sound
 module _ (c : tie.After-known-told2) where
   abbrev start : tie.Start
@@ -55,7 +43,8 @@ returns : tie.Need-returns
 returns c =
     let e = c .before .before in
     let s = e .before .before .before in
-    verdict-shape (s .args .table .now) (s .args .plan .now) (subst (TableChecked (s .args .table .now)) (c .enum-told .given .1) (e .check-table .ensures))
+    verdict-shape (s .args .table .now) (s .args .plan .now)
+    (subst (TableChecked (s .args .table .now)) (c .enum-told .given .1) (e .check-table .ensures))
 
 returns-2 : tie.Need-returns-2
 returns-2 c =
@@ -68,19 +57,12 @@ returns-3 : tie.Need-returns-3
 returns-3 c =
     let r = c .before in
     let k = r .before in
-    verdict-rest (xs k) (start k .args .plan .now) (tableIn (r .rows-of .result) (n k)) (resultOf (c .verdict-of .result) []) (clear k .0) (clear k .1) (r .rows-of .ensures)
+    verdict-rest (xs k) (start k .args .plan .now) (tableIn (r .rows-of .result) (n k))
+    (resultOf (c .verdict-of .result) []) (clear k .0) (clear k .1) (r .rows-of .ensures)
     (c .verdict-of .ensures)
 
 pub verdict-spec : {M : Type 1} → statement M
 verdict-spec =
     tie.close
-    (tie.spec
-    check-table-requires
-    enum-told
-    enum-known-checked
-    enum-known-checked-2
-    rows-of-requires
-    verdict-of-requires
-    returns
-    returns-2
-    returns-3)
+    (tie.spec (λ c κs. search needs) (λ c. search needs) (λ c. search needs) (λ c. search needs)
+    rows-of-requires verdict-of-requires returns returns-2 returns-3)

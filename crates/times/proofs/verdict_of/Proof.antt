@@ -15,12 +15,6 @@ use Rattle.times.proofs.Answers.{planned, verdict-plan, verdict-busy, v
 use Rattle.times.proofs.verdict_of.Statement.{statement}
 use Rattle.times.proofs.verdict_of.Tie as tie
 
-check-plan-requires : tie.Need-check-plan-requires
-check-plan-requires c κs = search needs
-
-enum-known-form : tie.Need-enum-known-form
-enum-known-form c = search needs
-
 module _ (s : tie.Start) where
   abbrev tb : Table
   tb = tableIn (s .args .rows) (s .args .n)
@@ -51,16 +45,8 @@ returns c =
     let e = c .before .before .before in
     let s = e .before .before in
     verdict-plan (tableIn (s .args .rows) (s .args .n)) (s .args .plan .now) (c .before .form .given .0 .0)
-    (subst (PlanChecked (tableIn (s .args .rows) (s .args .n)) (s .args .plan .now)) (c .before .form .given .1) (e .check-plan .ensures))
-
-enum-told : tie.Need-enum-told
-enum-told c = search needs
-
-busy-period-requires : tie.Need-busy-period-requires
-busy-period-requires c κs = search needs
-
-enum-told-2 : tie.Need-enum-told-2
-enum-told-2 c = search needs
+    (subst (PlanChecked (tableIn (s .args .rows) (s .args .n)) (s .args .plan .now)) (c .before .form .given .1)
+    (e .check-plan .ensures))
 
 returns-2 : tie.Need-returns-2
 returns-2 c =
@@ -69,14 +55,8 @@ returns-2 c =
     let s = start d in
     verdict-busy (tb s) (ps s) (form d) (subst (BusyFound (tb s)) (c .enum-told2 .given .1) (b .busy-period .ensures))
 
-enum-told-3 : tie.Need-enum-told-3
-enum-told-3 c = search needs
-
 responses-requires : tie.Need-responses-requires
 responses-requires c κs = let s = start (D c) in planned (tb s) (ps s) (s .pre) (form (D c)) (busy c)
-
-in-time-requires : tie.Need-in-time-requires
-in-time-requires c κs = search needs
 
 returns-3 : tie.Need-returns-3
 returns-3 c =
@@ -84,7 +64,8 @@ returns-3 c =
     let r = t .before in
     let b = r .before in
     let s = start (D b) in
-    verdict-yes (tb s) (ps s) (form (D b)) (busy b) (r .responses .result) (r .responses .ensures) (says-yes (t .in-time .result) (c .if1 .taken) (t .in-time .ensures))
+    verdict-yes (tb s) (ps s) (form (D b)) (busy b) (r .responses .result) (r .responses .ensures)
+    (says-yes (t .in-time .result) (c .if1 .taken) (t .in-time .ensures))
 
 returns-4 : tie.Need-returns-4
 returns-4 c =
@@ -92,21 +73,12 @@ returns-4 c =
     let r = t .before in
     let b = r .before in
     let s = start (D b) in
-    verdict-no (tb s) (ps s) (form (D b)) (busy b) (r .responses .result) (r .responses .ensures) (says-no (t .in-time .result) (c .if1 .left) (t .in-time .ensures))
+    verdict-no (tb s) (ps s) (form (D b)) (busy b) (r .responses .result) (r .responses .ensures)
+    (says-no (t .in-time .result) (c .if1 .left) (t .in-time .ensures))
 
 pub verdict-of-spec : {M : Type 1} → statement M
 verdict-of-spec =
     tie.close
-    (tie.spec
-    check-plan-requires
-    enum-known-form
-    returns
-    enum-told
-    busy-period-requires
-    enum-told-2
-    returns-2
-    enum-told-3
-    responses-requires
-    in-time-requires
-    returns-3
+    (tie.spec (λ c κs. search needs) (λ c. search needs) returns (λ c. search needs) (λ c κs. search needs)
+    (λ c. search needs) returns-2 (λ c. search needs) responses-requires (λ c κs. search needs) returns-3
     returns-4)

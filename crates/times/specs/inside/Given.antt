@@ -21,7 +21,8 @@ InTime tb rs = (i : ℕ) → i < tb .n → getD rs i 0 ≤ tb .D i
 
 -- times, after the checks 1 and 3
 abbrev pub TimesRest : Table → List ℕ → List ℕ → Result → Type 0
-TimesRest tb ps out r = Answered (plan-form tb ps ∷ room (tb .n) out ∷ no-busy tb ∷ []) (TimesGiven tb (planOf ps) out) out r
+TimesRest tb ps out r = Answered (plan-form tb ps ∷ room (tb .n) out ∷ no-busy tb ∷ []) (TimesGiven tb (planOf ps) out)
+    out r
 
 -- verdict, after the checks 1 and 3
 abbrev pub VerdictRest : Table → List ℕ → Result → Type 0

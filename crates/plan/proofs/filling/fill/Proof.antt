@@ -19,7 +19,8 @@ use Rattle.plan.proofs.filling.fill.Statement.{statement}
 use Rattle.plan.proofs.filling.fill.Tie as tie
 
 abbrev Inv-loop : tie.InvT-loop
-Inv-loop rows n plan₀ times₀ unplaced₀ blocking₀ plan times unplaced blocking = Going (tableIn rows n) plan times unplaced blocking
+Inv-loop rows n plan₀ times₀ unplaced₀ blocking₀ plan times unplaced blocking =
+    Going (tableIn rows n) plan times unplaced blocking
 
 abbrev μ-loop : tie.MeasureT-loop
 μ-loop rows n plan₀ times₀ unplaced₀ blocking₀ plan times unplaced blocking = unplaced
@@ -61,17 +62,9 @@ module _ (c : tie.After-known-told Inv-loop μ-loop) where
   inside : y < 32
   inside = omega (arith, picked .0 .row, A .before .before .pre .0 .few)
 
-cast-whole : tie.Need-cast-whole Inv-loop μ-loop
-cast-whole c = search needs
-
-whole-requires : tie.Need-whole-requires Inv-loop μ-loop
-whole-requires c κs = search needs
-
 loop-holds : tie.Need-loop-holds Inv-loop μ-loop
-loop-holds c = let s = c .before in going-first (tableIn (s .args .rows) (s .args .n)) (s .pre .0) (c .whole .result) (c .whole .ensures)
-
-size-requires : tie.Need-size-requires Inv-loop μ-loop
-size-requires c κs = search needs
+loop-holds c = let s = c .before in going-first (tableIn (s .args .rows) (s .args .n)) (s .pre .0) (c .whole .result)
+    (c .whole .ensures)
 
 choose-requires : tie.Need-choose-requires Inv-loop μ-loop
 choose-requires c κs =
@@ -86,55 +79,27 @@ choose-requires c κs =
       room = going-room (tb a) (pos a) (a .loop .plan) (a .loop .times) (U a) (b a) (a .loop .inv);
     }
 
-enum-known-pick : tie.Need-enum-known-pick Inv-loop μ-loop
-enum-known-pick c = search needs
-
-enum-told : tie.Need-enum-told Inv-loop μ-loop
-enum-told c = search needs
-
 returns : tie.Need-returns Inv-loop μ-loop
 returns c =
     let d = c .before .before in
     let a = d .before .before .before in
-    going-stops (tb a) (pos a) (a .loop .plan) (a .loop .times) (U a) (b a) (a .loop .inv) (d .before .size .result) (d .before .size .ensures)
-    (count-something (U a) 32 (pos-of-ne-zero (d .before .before .loop-test .taken)) (λ j m. omega (arith, a .loop .inv .inside j m, a .before .before .pre .0 .few)))
+    going-stops (tb a) (pos a) (a .loop .plan) (a .loop .times) (U a) (b a) (a .loop .inv) (d .before .size .result)
+    (d .before .size .ensures)
+    (count-something (U a) 32 (pos-of-ne-zero (d .before .before .loop-test .taken))
+    (λ j m. omega (arith, a .loop .inv .inside j m, a .before .before .pre .0 .few)))
     (subst (Picked (tb a) (marked (U a)) (b a) (marked (U a))) (c .enum-told .given .1) (d .choose .ensures))
-
-cast-i : tie.Need-cast-i Inv-loop μ-loop
-cast-i c = search needs
-
-mul-at : tie.Need-mul-at Inv-loop μ-loop
-mul-at c = search needs
-
-mul-plan : tie.Need-mul-plan Inv-loop μ-loop
-mul-plan c = search needs
 
 array-write-plan : tie.Need-array-write-plan Inv-loop μ-loop
 array-write-plan c = omega (arith, inside c)
 
-add-plan : tie.Need-add-plan Inv-loop μ-loop
-add-plan c = search needs
-
-mul-plan-2 : tie.Need-mul-plan-2 Inv-loop μ-loop
-mul-plan-2 c = search needs
-
 array-write-plan-2 : tie.Need-array-write-plan-2 Inv-loop μ-loop
 array-write-plan-2 c = omega (arith, inside c)
-
-mul-times : tie.Need-mul-times Inv-loop μ-loop
-mul-times c = search needs
 
 array-write-times : tie.Need-array-write-times Inv-loop μ-loop
 array-write-times c = omega (arith, inside c)
 
 sub-larger : tie.Need-sub-larger Inv-loop μ-loop
 sub-larger c = omega (arith, picked c .0 .shortest .low)
-
-cast-larger : tie.Need-cast-larger Inv-loop μ-loop
-cast-larger c = search needs
-
-larger-requires : tie.Need-larger-requires Inv-loop μ-loop
-larger-requires c κs = search needs
 
 less-requires : tie.Need-less-requires Inv-loop μ-loop
 less-requires c κs = (inside (c .before), picked (c .before) .0 .try)
@@ -146,10 +111,13 @@ loop-again : tie.Need-loop-again Inv-loop μ-loop
 loop-again c =
     let d = c .before .before in
     let a = A d in
-    let next = going-more (tb a) (pos a) (a .loop .plan) (a .loop .times) (U a) (b a) (a .loop .inv) (y d) (q d) (R d) (c .less .result) (inside d)
+    let next = going-more (tb a) (pos a) (a .loop .plan) (a .loop .times) (U a) (b a) (a .loop .inv) (y d) (q d) (R d)
+    (c .less .result) (inside d)
     (picked d .0) (picked d .1) (c .less .ensures) in
-    subst (λ (r : ℕ). Going (tb a) (put (a .loop .plan) r (y d) (q d)) (set (a .loop .times) (y d) (R d)) (c .less .result) (c .before .larger .result)) (sym (S d .before .size .ensures))
-    (subst (λ (x : ℕ). Going (tb a) (put (a .loop .plan) (rank (U a)) (y d) (q d)) (set (a .loop .times) (y d) (R d)) (c .less .result) x) (sym (c .before .larger .ensures)) next)
+    subst (λ (r : ℕ). Going (tb a) (put (a .loop .plan) r (y d) (q d)) (set (a .loop .times) (y d) (R d))
+    (c .less .result) (c .before .larger .result)) (sym (S d .before .size .ensures))
+    (subst (λ (x : ℕ). Going (tb a) (put (a .loop .plan) (rank (U a)) (y d) (q d)) (set (a .loop .times) (y d) (R d))
+    (c .less .result) x) (sym (c .before .larger .ensures)) next)
 
 returns-2 : tie.Need-returns-2 Inv-loop μ-loop
 returns-2 c =
@@ -159,30 +127,8 @@ returns-2 c =
 pub fill-spec : {M : Type 1} → statement M
 fill-spec =
     tie.close
-    (tie.spec
-    Inv-loop
-    μ-loop
-    cast-whole
-    whole-requires
-    loop-holds
-    size-requires
-    choose-requires
-    enum-known-pick
-    enum-told
-    returns
-    cast-i
-    mul-at
-    mul-plan
-    array-write-plan
-    add-plan
-    mul-plan-2
-    array-write-plan-2
-    mul-times
-    array-write-times
-    sub-larger
-    cast-larger
-    larger-requires
-    less-requires
-    loop-less
-    loop-again
-    returns-2)
+    (tie.spec Inv-loop μ-loop (λ c. search needs) (λ c κs. search needs) loop-holds (λ c κs. search needs)
+    choose-requires (λ c. search needs) (λ c. search needs) returns (λ c. search needs) (λ c. search needs)
+    (λ c. search needs) array-write-plan (λ c. search needs) (λ c. search needs) array-write-plan-2
+    (λ c. search needs) array-write-times sub-larger (λ c. search needs) (λ c κs. search needs) less-requires
+    loop-less loop-again returns-2)

@@ -34,17 +34,20 @@ module _ (s : tie.Start Inv-loop μ-loop) where
 
 -- the next value of the iteration
 next : (c : tie.After-active-side Inv-loop μ-loop) → Climbing (side (c .before .before)) 1 (c .active-side .result)
-next c = let s = c .before .before in rw (c .active-side .ensures) (climbing-step (side s) 1 (c .before .loop .t) (mono s) (c .before .loop .inv))
+next c = let s = c .before .before in rw (c .active-side .ensures)
+    (climbing-step (side s) 1 (c .before .loop .t) (mono s) (c .before .loop .inv))
 
 loop-holds : tie.Need-loop-holds Inv-loop μ-loop
 loop-holds c =
     let w = c .pre .3 in
     climbing-below (side c) 1 (c .args .low) (mono c)
-    (active-side-up (tb c) (marked (c .args .above)) (c .args .b) (c .args .i) (sound-positive (tb c) (c .pre .0 .sound)) (c .pre .2))
+    (active-side-up (tb c) (marked (c .args .above)) (c .args .b) (c .args .i)
+    (sound-positive (tb c) (c .pre .0 .sound)) (c .pre .2))
     (w .active) (w .some) (w .lower)
 
 active-side-requires : tie.Need-active-side-requires Inv-loop μ-loop
-active-side-requires c κs = let p = c .before .pre in (p .0, p .1, p .2, let w = within (c .before) (c .loop .inv) in omega arith)
+active-side-requires c κs = let p = c .before .pre in
+    (p .0, p .1, p .2, let w = within (c .before) (c .loop .inv) in omega arith)
 
 loop-less : tie.Need-loop-less Inv-loop μ-loop
 loop-less c =

@@ -38,14 +38,14 @@ module _ (c : tie.After-busy-side Inv-loop μ-loop) where
   next : Climbing (busy-side (asked A)) 1 (c .busy-side .result)
   next =
       subst (Climbing (busy-side (asked A)) 1) (sym (c .busy-side .ensures))
-      (climbing-step (busy-side (asked A)) 1 (c .before .before .loop .t) (busy-side-mono (asked A)) (c .before .before .loop .inv .0))
-
-asks-of-requires : tie.Need-asks-of-requires Inv-loop μ-loop
-asks-of-requires c κs = search needs
+      (climbing-step (busy-side (asked A)) 1 (c .before .before .loop .t) (busy-side-mono (asked A))
+      (c .before .before .loop .inv .0))
 
 loop-holds : tie.Need-loop-holds Inv-loop μ-loop
-loop-holds c =
-    (climbing-lo (busy-side (asked c)) 1 (busy-side-up (asked c) (sound-positive (asked c) (sound c)) (sound c .some)), omega arith)
+loop-holds c = (
+  climbing-lo (busy-side (asked c)) 1 (busy-side-up (asked c) (sound-positive (asked c) (sound c)) (sound c .some)),
+  omega arith,
+)
 
 busy-side-requires : tie.Need-busy-side-requires Inv-loop μ-loop
 busy-side-requires c κs = (sound (c .before .before), let h = c .before .loop .inv .1 in omega arith)
@@ -74,4 +74,5 @@ returns-2 c w =
 pub busy-period-spec : {M : Type 1} → statement M
 busy-period-spec =
     tie.close
-    (tie.spec Inv-loop μ-loop asks-of-requires loop-holds busy-side-requires loop-less loop-again returns returns-2)
+    (tie.spec Inv-loop μ-loop (λ c κs. search needs) loop-holds busy-side-requires loop-less loop-again
+    returns returns-2)
