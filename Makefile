@@ -1,8 +1,8 @@
-# The two commands of the README, make test and make run, and what licensees and the curious need besides.
+# The README's two commands, make test and make run, and what licensees and the curious need besides.
 .PHONY: test run lib program sheets kit sheet-is-there
 
-# Everything: what is tried from outside on the archive and on the program, then the kit's own verdict, whose
-# last line is the gate's.
+# Everything: what is tried from outside on the archive and on the program, then the kit's own
+# verdict, whose last line is the gate's.
 test: kit outside-test sheets
 	@rt fmt --check
 	@rt ci

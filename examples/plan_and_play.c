@@ -33,7 +33,7 @@ int main(void)
         plan[2 * row + 1] = planned[3 * row + 1];
     }
 
-    /* Row, release, run: the second task begins alone, the first arrives within its final region. */
+    /* Row, release, run: the second task begins alone, the first arrives in its final region. */
     const uint32_t jobs[3 * JOBS] = {1, 0, 4, 0, 3, 2};
     uint32_t finishes[JOBS];
     if (refused("play", tb_play(table, 3 * ROWS, plan, 2 * ROWS, jobs, 3 * JOBS, finishes, JOBS)))

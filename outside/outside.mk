@@ -1,7 +1,8 @@
-# The outside tests and the benchmark of the library's archive; all they make goes below target/outside.
+# The outside tests and the benchmark of the library's archive; they write to target/outside only.
 #
-# The archive is x86-64 code. What links it is compiled, linked and run by the kit's own tools, under the kit's emulator
-# where the machine is of another kind; what judges it is Rust for the machine itself, and asks over a pipe.
+# The archive is x86-64 code. What links it is compiled, linked and run by the kit's own tools,
+# under the kit's emulator where the machine is of another kind; what judges it is Rust for the
+# machine itself, and asks over a pipe.
 
 ARCHIVE ?= target/staticlib/libtempletbark.a
 
@@ -24,8 +25,8 @@ tools-are-there:
 		command -v $$tool >/dev/null || { echo "outside: $$tool is not installed" >&2; exit 1; }; \
 	done
 
-# What the archive is made by, where the same run makes it, is a prerequisite of this; what links it is linked
-# anew each time.
+# What the archive is made by, where the same run makes it, is a prerequisite of this; what links it
+# is linked anew each time.
 archive-is-there:
 	@[ -f $(ARCHIVE) ] || { echo "outside: there is no $(ARCHIVE); make lib writes it" >&2; exit 1; }
 
@@ -46,7 +47,7 @@ $(OUTSIDE)/compare: $(wildcard outside/compare/*.rs) $(OUTSIDE)/libsecond.rlib $
 $(OUTSIDE)/bench: $(wildcard outside/bench/*.rs) $(OUTSIDE)/libcommon.rlib
 	$(RUST) --crate-name bench outside/bench/main.rs -L $(OUTSIDE) --extern common -o $@
 
-# x86-64: the bridge over the product, over the hand-written version and over the literal search; the example.
+# x86-64: the bridge over the product, the hand-written version and the literal search; the example.
 
 $(OUTSIDE)/bridge.o: outside/bridge/bridge.c include/templetbark.h | $(OUTSIDE)
 	$(X86_CC) -ffreestanding -c $< -o $@
@@ -80,7 +81,7 @@ outside-wrong: $(OUTSIDE)/compare $(OUTSIDE)/bridge-by_hand
 	$(OUTSIDE)/compare $(X86_RUN) $(OUTSIDE)/bridge-by_hand
 	outside/wrong.sh $(OUTSIDE) $(X86_CLANG) '$(X86_LINK)' '$(X86_RUN)'
 
-# The library beside the hand-written version and the literal search, as tables for docs/PERFORMANCE.md.
+# The library beside the hand-written version and the literal search, for docs/PERFORMANCE.md.
 bench: $(OUTSIDE)/bench $(OUTSIDE)/bridge-product $(OUTSIDE)/bridge-by_hand $(OUTSIDE)/bridge-literal
 	$(OUTSIDE)/bench '$(X86_RUN) $(OUTSIDE)/bridge-product' '$(X86_RUN) $(OUTSIDE)/bridge-by_hand' \
 		'$(X86_RUN) $(OUTSIDE)/bridge-literal'

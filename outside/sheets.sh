@@ -1,7 +1,7 @@
 #!/bin/sh
-# Runs a program on every sheet of a folder and asks for the plan that stands beside it, byte for byte.
+# Runs a program on every sheet of a folder and asks for the plan beside it, byte for byte.
 #
-# sheets.sh FOLDER WROTE PROGRAM..: NAME.sheet goes in, NAME.plan must come out; WROTE keeps what came out.
+# sheets.sh FOLDER WROTE PROGRAM..: NAME.sheet goes in, NAME.plan must come out; it is kept in WROTE.
 set -eu
 folder=$1 wrote=$2
 shift 2

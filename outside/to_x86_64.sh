@@ -1,9 +1,12 @@
 #!/bin/sh
-# Compiles a Rust crate without std to an x86-64 object, on any machine: to_x86_64.sh LIB.rs OBJECT.o CLANG
+# Compiles a Rust crate without std to an x86-64 object, on any machine.
 #
-# The library's archive is x86-64 code, and a machine of another kind has no Rust library for x86-64. So the crate goes
-# through LLVM's text, before any optimisation, and the kit's own clang compiles it at -O3 as it compiles the library:
-# what is measured beside the library differs in its code and not in its compiler. Panics become traps.
+# to_x86_64.sh LIB.rs OBJECT.o CLANG
+#
+# The library's archive is x86-64 code, and a machine of another kind has no Rust library for
+# x86-64. So the crate goes through LLVM's text, before any optimisation, and the kit's own clang
+# compiles it at -O3 as it compiles the library: what is measured beside the library differs in its
+# code and not in its compiler. Panics become traps.
 set -eu
 crate=$1 object=$2 clang=$3
 rustc --edition 2021 --crate-type lib --emit=llvm-ir -C opt-level=3 -C no-prepopulate-passes -C codegen-units=1 \

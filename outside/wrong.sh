@@ -1,5 +1,6 @@
 #!/bin/sh
-# Makes wrong versions of the hand-written library, one edit each, and asks that the comparison catch every one.
+# Makes wrong versions of the hand-written library, one edit each, and asks that the comparison
+# catch every one.
 #
 # wrong.sh FOLDER CLANG 'LINK WORDS' 'RUN WORDS': FOLDER has compare and bridge.o.
 set -eu
@@ -7,7 +8,8 @@ folder=$1 clang=$2 link=$3 run=$4
 room=$folder/wrong
 missed=0 tried=0
 
-# wrong NAME FILE OLD NEW: outside/FILE with NEW for OLD, which it has exactly once, gives a library that is caught.
+# wrong NAME FILE OLD NEW: outside/FILE with NEW for OLD, which it has exactly once, gives a library
+# that is caught.
 wrong() {
     rm -rf "$room"
     mkdir -p "$room"

@@ -1,4 +1,5 @@
-//! The inputs that are measured: realistic tables, hard tables, long active periods, long and crowded runs.
+//! The inputs that are measured: realistic tables, hard tables, long active periods, long and
+//! crowded runs.
 
 use common::bridge::{bytes, Call, Operation};
 use common::random::Random;
@@ -37,8 +38,8 @@ fn uunifast(random: &mut Random, rows: usize, total: f64) -> Vec<f64> {
     shares
 }
 
-/// Twenty tables of so many rows and utilisation: spacings spread evenly over the powers from 1,000 to 100,000 ticks,
-/// deadlines from four fifths of the spacing to twice the spacing.
+/// Twenty tables of so many rows and utilisation: spacings spread evenly over the powers from 1,000
+/// to 100,000 ticks, deadlines from four fifths of the spacing to twice the spacing.
 pub fn realistic(rows: usize, utilisation: f64) -> Vec<Call> {
     let mut random = Random((rows as u64) << 32 | (utilisation * 100.0) as u64);
     let row = |random: &mut Random, share: f64| {
@@ -97,7 +98,8 @@ pub fn flood(jobs: u32) -> Call {
     run(1, 40, jobs, |job| 1 + job % 40)
 }
 
-/// Each job is preempted after two of its three ticks by the next, of higher rank, until the lowest rank comes round again.
+/// Each job is preempted after two of its three ticks by the next, of higher rank, until the lowest
+/// rank comes round again.
 pub fn preempted(jobs: u32) -> Call {
     let list: Vec<u32> = (0..jobs).flat_map(|job| [31 - job % 32, job * 2, 3]).collect();
     play_of(&[3, M, 64].repeat(32), &list)
@@ -113,7 +115,10 @@ pub fn texts() -> Vec<(&'static str, Call)> {
     let planned: Vec<u32> = (0..32).flat_map(|row| [row + 1, 1_000 * row + 1, M - row]).collect();
     vec![
         ("sheet of 32 rows", Call { operation: Operation::Sheet, slices: vec![sheet, vec![0; 4 * 96]], number: 0 }),
-        ("print of 32 rows", Call { operation: Operation::Print, slices: vec![bytes(&planned), vec![0; 4_096]], number: 0 }),
+        (
+            "print of 32 rows",
+            Call { operation: Operation::Print, slices: vec![bytes(&planned), vec![0; 4_096]], number: 0 },
+        ),
         ("fit of 32 rows", Call { operation: Operation::Fit, slices: vec![bytes(&planned)], number: 4_096 }),
     ]
 }

@@ -1,4 +1,5 @@
-//! Measures the library beside the hand-written version and the literal search, in one run, as tables in markdown.
+//! Measures the library beside the hand-written version and the literal search, in one run, as
+//! tables in markdown.
 
 mod families;
 mod measure;

@@ -14,8 +14,8 @@ pub struct Versions {
     pub literal: Bridge,
 }
 
-/// Nanoseconds of one input or of several together, and how many of them were not refused. The literal search has none
-/// where it was given up or not tried.
+/// Nanoseconds of one input or of several together, and how many of them were not refused. The
+/// literal search has none where it was given up or not tried.
 #[derive(Default)]
 pub struct Times {
     pub given: usize,
@@ -43,7 +43,8 @@ fn same(one: &Reply, other: &Reply) -> bool {
     (one.number, one.place, one.value, &one.slices) == (other.number, other.place, other.value, &other.slices)
 }
 
-/// All inputs together. The versions must answer alike; the literal search may instead have been given up.
+/// All inputs together. The versions must answer alike; the literal search may instead have been
+/// given up.
 pub fn measure(versions: &mut Versions, calls: &[Call], with_literal: bool) -> io::Result<Times> {
     let mut times = Times { literal: with_literal.then_some(0.0), ..Times::default() };
     for call in calls {

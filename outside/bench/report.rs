@@ -1,4 +1,5 @@
-//! The measurements as markdown: ratios by family, and how the cost grows with rows, utilisation and jobs.
+//! The measurements as markdown: ratios by family, and how the cost grows with rows, utilisation
+//! and jobs.
 
 use std::io;
 
@@ -11,7 +12,9 @@ const JOBS: [u32; 5] = [256, 512, 1_024, 2_048, 4_096];
 
 pub fn heading(emulated: bool) {
     if emulated {
-        println!("Processor time under the kit's x86-64 emulator: the ratios compare code, the times are not a box's.\n");
+        println!(
+            "Processor time under the kit's x86-64 emulator: the ratios compare code, the times are not a box's.\n"
+        );
     } else {
         println!("Processor time on x86-64.\n");
     }
@@ -45,14 +48,18 @@ pub fn realistic_plans(versions: &mut Versions) -> io::Result<()> {
         for rows in ROWS {
             let calls = families::realistic(rows, utilisation);
             let times = measure(versions, &calls, true)?;
-            let name = format!("plan: 20 UUniFast tables ({} planned), {rows} rows, utilisation {utilisation}", times.given);
+            let name =
+                format!("plan: 20 UUniFast tables ({} planned), {rows} rows, utilisation {utilisation}", times.given);
             line(&name, &times);
             grown += &format!(" {} |", microseconds(times.library / calls.len() as f64));
         }
         grown += "\n";
     }
     let columns = ROWS.map(|rows| format!(" {rows} rows |")).concat();
-    println!("\nPlan, µs a table, the library:\n\n| utilisation |{columns}\n|---|{}\n{grown}", "---|".repeat(ROWS.len()));
+    println!(
+        "\nPlan, µs a table, the library:\n\n| utilisation |{columns}\n|---|{}\n{grown}",
+        "---|".repeat(ROWS.len())
+    );
     Ok(())
 }
 

@@ -1,11 +1,13 @@
 /* Calls the library on slices that end at an unreadable page, as another process asks over a pipe.
  *
- * The archive is x86-64 code and the tests run on any machine, so the tests ask and this program calls.
- * Nothing is judged here: the answer and every lent slice, as the call left them, go back to be compared.
+ * The archive is x86-64 code and the tests run on any machine, so the tests ask and this program
+ * calls. Nothing is judged here: the answer and every lent slice, as the call left them, go back
+ * to be compared.
  *
- * A request is 64-bit words (operation, times to call, number, slices, then each slice's bytes) and the slices
- * themselves. A reply is 64-bit words (refusal, place, value, whether the bytes before each slice are as they were,
- * nanoseconds of processor time of all calls) and the slices again.
+ * A request is 64-bit words (operation, times to call, number, slices, then each slice's bytes)
+ * and the slices themselves. A reply is 64-bit words (refusal, place, value, whether the bytes
+ * before each slice are as they were, nanoseconds of processor time of all calls) and the slices
+ * again.
  */
 #include <stddef.h>
 #include <stdint.h>
@@ -20,7 +22,8 @@ extern long write(int file, const void *bytes, size_t length);
 extern int clock_gettime(int clock, int64_t time[2]);
 extern void _exit(int status) __attribute__((noreturn));
 
-enum { ROOMS = 4, MARGIN = 64, FILLER = 0xA5, UNREADABLE = 0, READ_WRITE = 3, PRIVATE_ANONYMOUS = 0x22, PROCESSOR_TIME = 2 };
+enum { ROOMS = 4, MARGIN = 64, FILLER = 0xA5 };
+enum { UNREADABLE = 0, READ_WRITE = 3, PRIVATE_ANONYMOUS = 0x22, PROCESSOR_TIME = 2 };
 static const size_t ROOM = 1 << 20, GUARD = 1 << 16;
 
 enum { PLAN, TIMES, VERDICT, PLAY, SHEET, PRINT, FIT };

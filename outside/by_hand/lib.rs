@@ -1,4 +1,4 @@
-//! The product's algorithms written by hand in Rust behind the same C names, to measure the product against.
+//! The product's algorithms by hand in Rust behind the same C names, to measure the product against.
 #![no_std]
 
 mod play;

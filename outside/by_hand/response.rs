@@ -11,7 +11,8 @@ fn sum(rows: &Rows, mut set: u32, of: impl Fn(&Row) -> u64) -> u64 {
     total
 }
 
-/// The least t of at least 1 with t = extra + the sum over the set of ceil(t/T)·C, if it is at most the horizon.
+/// The first t from 1 to the horizon at which `extra` and the work that the set releases before t
+/// make t.
 pub fn least_idle(rows: &Rows, set: u32, extra: u64) -> Option<u64> {
     let mut t = extra + sum(rows, set, |r| r.c);
     loop {

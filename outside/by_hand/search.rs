@@ -1,4 +1,5 @@
-//! The choice of ranks and lengths: unplaced rows as one 32-bit set, the length bisected, a row tried only if it can win.
+//! The choice of ranks and lengths: the rows without a rank are bits of one number, lengths are
+//! bisected, and a row is tried only if it can win.
 
 use crate::response::{all, least_idle, Level};
 use crate::surface::answer::Refusal;
@@ -12,7 +13,7 @@ struct Best {
     response: u64,
 }
 
-/// The shortest passing length up to `cap` with its response. What passes is closed upward in the length.
+/// The shortest passing length up to `cap`, with its response. Any longer one passes too.
 fn shortest(rows: &Rows, level: &Level, cap: u64) -> Option<(u64, u64)> {
     let passes = |length| level.response(rows, length, level.own.d);
     if let Some(response) = passes(1) {

@@ -1,4 +1,5 @@
-//! The library's operations as called by the bridge program, which lends each slice up to an unreadable page.
+//! The library's operations as called by the bridge program, which lends each slice up to an
+//! unreadable page.
 
 use std::io::{self, Read, Write};
 use std::process::{Child, ChildStdin, ChildStdout, Command, Stdio};
@@ -49,8 +50,8 @@ impl Bridge {
         Ok(Bridge { _child: child, to, from })
     }
 
-    /// Makes the call so many times over. An error means that the program ended, as it does when the library touches
-    /// a byte that was not lent.
+    /// Makes the call so many times over. An error means that the program ended, as it does when
+    /// the library touches a byte that was not lent.
     pub fn call(&mut self, call: &Call, times: u64) -> io::Result<Reply> {
         let head = [call.operation as u64, times, call.number, call.slices.len() as u64];
         let words = head.into_iter().chain(call.slices.iter().map(|s| s.len() as u64));

@@ -1,4 +1,5 @@
-//! Which tables the second planner's upward searches can afford; a table that is refused early costs nothing.
+//! Which tables the second planner's upward searches can afford; a table that is refused early
+//! costs nothing.
 
 use second::{busy_period, Row};
 
@@ -13,8 +14,9 @@ pub struct Afford {
 }
 
 pub fn of(table: &[u32]) -> Afford {
-    let sound =
-        table.len() % 3 == 0 && (1..=32).contains(&(table.len() / 3)) && table.iter().all(|v| (1..=1_000_000).contains(v));
+    let sound = table.len() % 3 == 0
+        && (1..=32).contains(&(table.len() / 3))
+        && table.iter().all(|v| (1..=1_000_000).contains(v));
     if !sound {
         return Afford { responses: true, plan: true, overloaded: false };
     }

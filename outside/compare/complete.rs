@@ -1,4 +1,5 @@
-//! Small tables with all their ranks and lengths: plan is refused 5 exactly if none passes, and verdict judges each.
+//! Small tables with all their ranks and lengths: plan is refused 5 exactly if none passes, and
+//! verdict judges each.
 
 use crate::judge::Judge;
 use common::random::Random;

@@ -1,4 +1,5 @@
-//! Ways to damage tables, plans, job lists and sheets, so that every refusal comes up at many places and several at once.
+//! Ways to damage tables, plans, job lists and sheets, so that every refusal comes up at many
+//! places and several at once.
 
 use common::random::Random;
 

@@ -1,12 +1,16 @@
-//! Fixed cases at the limits: the horizon, 32 rows, 4,096 jobs, the last release, places at both ends, empty slices.
+//! Fixed cases at the limits: the horizon, 32 rows, 4,096 jobs, the last release, places at both
+//! ends, empty slices.
 
 use crate::judge::Judge;
 
 const M: u32 = 1_000_000;
 
 fn busy_period_at_the_horizon(judge: &mut Judge) {
-    let of_the_horizon: [&[u32]; 3] =
-        [&[M, M, M], &[200_000, M, 399_999, 200_000, M, 599_999], &[76_008, M, 90_918, 1_520, M, 201_384, 668, M, 4_275]];
+    let of_the_horizon: [&[u32]; 3] = [
+        &[M, M, M],
+        &[200_000, M, 399_999, 200_000, M, 599_999],
+        &[76_008, M, 90_918, 1_520, M, 201_384, 668, M, 4_275],
+    ];
     let one_more: [&[u32]; 1] = [&[200_001, M, 399_999, 199_999, M, 600_000]];
     for table in of_the_horizon {
         let plan: Vec<u32> = (1..=table.len() as u32 / 3).flat_map(|rank| [rank, 1]).collect();
@@ -53,7 +57,8 @@ fn counts_of_rows(judge: &mut Judge) {
     }
 }
 
-/// Each number of a table, a plan and a job list put just outside its range, alone and before a second fault.
+/// Each number of a table, of a plan and of a job list put just outside its range, alone and before
+/// a second fault.
 fn places(judge: &mut Judge) {
     let table = [3, 9, 9].repeat(32);
     let plan: Vec<u32> = (1..=32).flat_map(|rank| [rank, 2]).collect();

@@ -1,4 +1,5 @@
-//! Demand 3 on small tables: over all runs in a window no job takes longer than its response, and some job takes exactly that.
+//! Demand 3 on small tables: over all runs in a window no job takes longer than its response, and
+//! some job takes exactly that.
 
 use crate::judge::Judge;
 use crate::make;

@@ -9,7 +9,7 @@ fn refused<T>(number: u32, place: u32) -> Answer<T> {
     Err(Refusal { number, place })
 }
 
-/// The judge holds the library to the second planner; this holds the second planner to the document.
+/// The judge holds the library to the second planner; this holds the second planner to document 01.
 fn same<T: PartialEq + std::fmt::Debug>(judge: &mut Judge, what: &str, second: T, printed: T) {
     judge.counts.add("figures of document 01");
     if second != printed {

@@ -1,4 +1,4 @@
-//! Holds each answer of the library against the second planner's, and each lent slice against a copy.
+//! Holds the library's answers against the second planner's, and each lent slice against a copy.
 
 use crate::counts::Counts;
 use common::bridge::{bytes, numbers, Bridge, Call, Operation, Reply};
@@ -45,7 +45,8 @@ impl Judge {
         })
     }
 
-    /// Calls, and returns what was given if all is as expected. The output, where there is one, is the last slice.
+    /// Calls, and returns what was given if all is as expected. The output, where there is one, is
+    /// the last slice.
     fn hold(&mut self, call: Call, has_output: bool, expected: Answer<Given>) -> Option<Given> {
         let reply = self.ask(&call);
         let kind = expected.as_ref().map_or_else(|r| format!("refused {}", r.number), |_| "given".into());
@@ -124,8 +125,8 @@ impl Judge {
         Some(self.hold(Call { operation: Operation::Fit, slices, number: room }, false, expected)?.0)
     }
 
-    /// The library's own answer, for inputs too large for the second planner; the slices are held all the same. The
-    /// output is the last slice, and the answer fills it.
+    /// The library's own answer, for inputs too large for the second planner; the slices are held
+    /// all the same. The output is the last slice, and the answer fills it.
     fn alone(&mut self, call: Call) -> Answer<Vec<u32>> {
         let reply = self.ask(&call);
         let given = reply.number == 0;

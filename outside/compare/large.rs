@@ -1,4 +1,4 @@
-//! Large numbers: plans of up to 32 rows held at their edges, long runs held to small ones scaled up.
+//! Large numbers: plans of up to 32 rows held at their edges, long runs held to scaled small ones.
 
 use crate::judge::Judge;
 use crate::make;
@@ -7,7 +7,8 @@ use second::{busy_period, Level, Placed, Refusal, Row};
 
 const M: u64 = 1_000_000;
 
-/// Rows with spacings from `least` to M that share about `percent` of the processor, and deadlines that are mostly tight.
+/// Rows with spacings from `least` to M that share about `percent` of the processor, and deadlines
+/// that are mostly tight.
 pub fn wide_table(random: &mut Random, rows: usize, least: u64, percent: u64) -> Vec<u32> {
     let row = |_| {
         let t = random.from_to(least, M);
@@ -19,8 +20,9 @@ pub fn wide_table(random: &mut Random, rows: usize, least: u64, percent: u64) ->
     (0..rows).flat_map(row).collect()
 }
 
-/// Whether each rank went to the row with the least shortest length, the earliest among equals, with its response: the
-/// length taken passes, and one shorter (or the same, of an earlier row) fails. What passes with a length passes with more.
+/// Whether each rank went to the right row, with its response: the length taken passes, and of the
+/// rows that could have had the rank none passes with a shorter length, and none before this row
+/// with the same. What passes with a length passes with more.
 fn held_at_edges(rows: &[Row], planned: &[u32]) -> bool {
     let placed: Vec<Placed> = planned.chunks(3).map(|p| Placed { rank: p[0], length: p[1] }).collect();
     (0..rows.len()).all(|y| {
@@ -40,7 +42,7 @@ fn held_at_edges(rows: &[Row], planned: &[u32]) -> bool {
     })
 }
 
-/// A plan that is given is held at its edges; one that is refused 5 has no plan that is known to pass.
+/// A plan that is given is held at its edges; where 5 is refused, no plan is known to pass.
 fn plan(judge: &mut Judge, table: &[u32], known: &[u32]) {
     let rows = Row::of_table(table);
     let some_plan_passes = judge.verdict(table, known) == Some(true);
@@ -93,9 +95,9 @@ pub fn overloads(judge: &mut Judge, random: &mut Random, cases: usize) {
     }
 }
 
-/// Every number of a run times `factor`. Decisions fall on multiples of it, and there a job is in its region of length q
-/// exactly if the larger job is in one of any length from factor·(q−1) + 1 to factor·q. So every decision is the same, and
-/// every finish is `factor` times as late.
+/// Every number of a run times `factor`. Decisions fall on multiples of it, and there a job is in
+/// its region of length q exactly if the larger job is in one of any length from factor·(q−1) + 1
+/// to factor·q. So every decision is the same, and every finish is `factor` times as late.
 pub fn scaled_run(judge: &mut Judge, random: &mut Random, table: &[u32], jobs: &[u32], factor: u32) {
     let plan = make::plan(random, table);
     let small = second::play(table, &plan, jobs, jobs.len() / 3);
@@ -121,7 +123,8 @@ pub fn runs(judge: &mut Judge, random: &mut Random, cases: usize) {
     }
 }
 
-/// 4,096 jobs that all run 1,000,000 ticks, the longest run there is; and a flood of them all at tick 0 or soon after.
+/// 4,096 jobs that all run 1,000,000 ticks, the longest run there is; and a flood of them all at
+/// tick 0 or soon after.
 pub fn longest_run(judge: &mut Judge, random: &mut Random) {
     let table = [1_000, 7, 7].repeat(32);
     let jobs: Vec<u32> = (0..4_096).flat_map(|job| [job % 32, job / 32 * 7, 1_000]).collect();

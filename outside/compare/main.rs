@@ -1,4 +1,5 @@
-//! Compares the library with the second planner through the C surface, on fixed seeds, and counts what came up.
+//! Compares the library with the second planner through the C surface, on fixed seeds, and counts
+//! what came up.
 
 mod afford;
 mod cases;

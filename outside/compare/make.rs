@@ -82,8 +82,8 @@ pub fn table(random: &mut Random) -> Vec<u32> {
     }
 }
 
-/// The same rows with deadlines at the responses of some plan, at times one tick short, so that lengths and ties decide;
-/// and that plan.
+/// The same rows with deadlines at the responses of some plan, at times one tick short, so that
+/// lengths and ties decide; and that plan.
 pub fn tight(random: &mut Random, table: &[u32]) -> (Vec<u32>, Vec<u32>) {
     let some_plan = plan(random, table);
     let mut tight = table.to_vec();
@@ -108,7 +108,8 @@ pub fn plan(random: &mut Random, table: &[u32]) -> Vec<u32> {
     (0..rows).flat_map(|i| [ranks[i], length(random, table[3 * i])]).collect()
 }
 
-/// Up to `most` jobs, each row's releases at their least spacing or a little wider, listed in order of release.
+/// Up to `most` jobs, each row's releases at their least spacing or a little wider, listed in order
+/// of release.
 pub fn jobs(random: &mut Random, table: &[u32], most: usize, last_release: u64) -> Vec<u32> {
     let mut jobs: Vec<[u32; 3]> = vec![];
     let loose = random.below(3) as u64;

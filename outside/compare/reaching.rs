@@ -1,4 +1,4 @@
-//! Demand 3's second half: for each row of a table, a job list in which a job takes the row's response.
+//! Demand 3's second half: for each row a job list in which one job takes exactly its response.
 
 use crate::judge::Judge;
 use crate::{afford, large, make};
@@ -15,9 +15,9 @@ struct Reaching {
 }
 
 /// A job of the lower row with the longest region is alone until it has executed one tick of that
-/// region. From then on row i and the rows above it are released as often as their spacings allow: row
-/// i up to the job that gives its response, the others up to that job's start. Every job runs for its
-/// C. `None` if the list has more jobs or later releases than play takes.
+/// region. From then on row i and the rows above it are released as often as their spacings allow:
+/// row i up to the job that gives its response, the others up to that job's start. Every job runs
+/// for its C. `None` if the list has more jobs or later releases than play takes.
 fn reaching(rows: &[Row], placed: &[Placed], i: usize) -> Option<Reaching> {
     let length = u64::from(placed[i].length);
     let spans = Level::of(rows, placed, i).spans(length);
@@ -41,7 +41,7 @@ fn reaching(rows: &[Row], placed: &[Placed], i: usize) -> Option<Reaching> {
     Some(Reaching { list, job, earlier, blocked: blocker.is_some() })
 }
 
-/// The library plays the list that reaches row i's response, and is held to the responses that it gave.
+/// Has the library play the list for row i, and holds it to the responses that it gave.
 fn row(judge: &mut Judge, table: &[u32], plan: &[u32], responses: &[u32], i: usize) {
     let (rows, placed) = (Row::of_table(table), Placed::of_plan(plan));
     let Some(Reaching { list, job, earlier, blocked }) = reaching(&rows, &placed, i) else {
@@ -95,8 +95,8 @@ pub fn tables(judge: &mut Judge, random: &mut Random, cases: usize) {
     }
 }
 
-/// Rows of equal shares that leave next to nothing of the processor, with spacings of several sizes, so
-/// that some responses come late in long active periods.
+/// Rows of equal shares that leave next to nothing of the processor, with spacings of several
+/// sizes, so that some responses come late in long active periods.
 fn crowded(random: &mut Random) -> Vec<u32> {
     let rows = random.from_to(3, 32);
     let row = |_| {

@@ -3,7 +3,7 @@
 use crate::counts::Counts;
 use second::{busy_period, Level, Placed, Row};
 
-/// Whether the sum of C/T is exactly 1, over the product of the spacings; larger products are left out.
+/// Whether the sum of C/T is 1, over the product of the spacings; larger products are left out.
 fn exactly_full(rows: &[Row]) -> bool {
     let product = rows.iter().try_fold(1u128, |product, row| product.checked_mul(row.t.into()));
     product.is_some_and(|all| rows.iter().map(|row| all / u128::from(row.t) * u128::from(row.c)).sum::<u128>() == all)

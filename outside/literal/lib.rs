@@ -1,4 +1,5 @@
-//! The literal search behind the same C names: lengths upward from 1, every iteration from nothing, runs tick by tick.
+//! The literal search behind the same C names: lengths upward from 1, every iteration from nothing,
+//! runs tick by tick.
 #![no_std]
 
 mod play;

@@ -3,7 +3,7 @@
 use crate::surface::rows::{Planned, Row, Rows, HORIZON, PLACES};
 use crate::work;
 
-/// Iterates a right side from `from` until a value repeats, exceeds the horizon, or the work is over.
+/// Iterates a right side from `from` until it repeats, exceeds the horizon, or the work is over.
 fn least_fixed(from: u64, right_side: impl Fn(u64) -> u64) -> Option<u64> {
     let mut value = from;
     loop {

@@ -1,4 +1,5 @@
-//! A limit on evaluations, so that a measurement of the literal search ends; beyond it the answer is refusal 99.
+//! A limit on evaluations, so that a measurement of the literal search ends; beyond it the answer
+//! is refusal 99.
 
 use core::sync::atomic::{AtomicU64, Ordering::Relaxed};
 

@@ -18,11 +18,13 @@ pub fn plan_fault(rows: &[Row], plan: &[u32]) -> Option<usize> {
     (0..rows.len()).find(|&i| {
         let ranks = 1..=rows.len() as u32;
         let lengths = 1..=rows[i].c;
-        !ranks.contains(&rank(i)) || (0..i).any(|j| rank(j) == rank(i)) || !lengths.contains(&u64::from(plan[2 * i + 1]))
+        !ranks.contains(&rank(i))
+            || (0..i).any(|j| rank(j) == rank(i))
+            || !lengths.contains(&u64::from(plan[2 * i + 1]))
     })
 }
 
-/// The first job that breaks a rule by itself or against any earlier job, every pair looked at.
+/// The first job at fault, alone or beside any job ahead of it; every pair is looked at.
 pub fn job_fault(rows: &[Row], jobs: &[u32]) -> Option<usize> {
     let jobs: Vec<(usize, u64, u64)> = jobs.chunks(3).map(|j| (j[0] as usize, j[1].into(), j[2].into())).collect();
     (0..jobs.len()).find(|&later| {

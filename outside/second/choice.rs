@@ -1,4 +1,5 @@
-//! How the plan is chosen, rank by rank from the lowest, lengths tried upward from 1; and all plans there are.
+//! The choice of a plan, rank by rank from the lowest, with lengths tried upward from 1; and all
+//! plans there are.
 
 use crate::{Level, Row};
 
@@ -26,7 +27,8 @@ fn shortest(rows: &[Row], places: &[Option<Placed>], i: usize) -> Option<u32> {
 pub fn chosen(rows: &[Row]) -> Option<Vec<Placed>> {
     let mut places = vec![None; rows.len()];
     for rank in (1..=rows.len() as u32).rev() {
-        let passing = (0..rows.len()).filter(|&i| places[i].is_none()).filter_map(|i| Some((shortest(rows, &places, i)?, i)));
+        let passing =
+            (0..rows.len()).filter(|&i| places[i].is_none()).filter_map(|i| Some((shortest(rows, &places, i)?, i)));
         let (length, row) = passing.min()?;
         places[row] = Some(Placed { rank, length });
     }

@@ -1,4 +1,4 @@
-//! The dispatch rule of the kernel, walked tick by tick.
+//! What the kernel makes of a job list, walked tick by tick.
 
 use std::collections::VecDeque;
 
@@ -23,7 +23,7 @@ struct Pending {
     executed: u64,
 }
 
-/// Each job's finish, the tick after its last executed tick. The list's releases never fall.
+/// For each job the tick behind the last one that it runs in. The list is in the order of releases.
 pub fn finishes(rows: &[Row], placed: &[Placed], jobs: &[Job]) -> Vec<u64> {
     let mut finish = vec![0; jobs.len()];
     let mut queues: Vec<VecDeque<Pending>> = rows.iter().map(|_| VecDeque::new()).collect();

@@ -1,7 +1,9 @@
-//! The second planner: document 01's operations written from its text alone, to be believed at sight and not to be fast.
+//! The second planner: document 01's operations written from its text alone, to be believed at
+//! sight and not to be fast.
 //!
-//! It searches where the product iterates: candidates are taken stretch by stretch between releases, lengths upward from 1,
-//! the dispatch rule tick by tick, and sheets by trying endings. It shares no line with the product.
+//! It searches where the product iterates: candidates are taken stretch by stretch between
+//! releases, lengths upward from 1, the dispatch rule tick by tick, and sheets by trying endings.
+//! It shares no line with the product.
 
 mod checks;
 mod choice;

@@ -19,7 +19,8 @@ impl Sheet {
     }
 }
 
-/// The numbers of a line, each within 1 to `most`; any first word will do, since the text is printed again.
+/// The numbers of a line, each within 1 to `most`; any first word will do, since the text is
+/// printed again.
 fn numbers<const N: usize>(line: &str, most: u64) -> Option<[u64; N]> {
     let numbers: Option<Vec<u64>> = line.split(' ').skip(1).map(|word| word.parse().ok()).collect();
     let numbers: [u64; N] = numbers?.try_into().ok()?;
@@ -35,15 +36,16 @@ pub fn read(text: &[u8]) -> Option<Sheet> {
     ((1..=MOST_ROWS).contains(&sheet.rows.len()) && sheet.text() == text).then_some(sheet)
 }
 
-/// Whether some well-formed sheet begins with these bytes: one of the ends of two shortest texts completes them.
+/// Whether some sheet begins with these bytes: if so, one of the ends of two shortest texts
+/// completes them.
 fn begins(prefix: &[u8]) -> bool {
     let endings = ["tick 1\ntask 1 1 1\n", "task 1 1 1\n"];
     let tails = endings.iter().flat_map(|whole| (0..=whole.len()).map(|from| &whole.as_bytes()[from..]));
     tails.into_iter().any(|tail| read(&[prefix, tail].concat()).is_some())
 }
 
-/// The length of the longest prefix that some well-formed sheet also begins with. Whatever begins with a longer one
-/// begins with each shorter one too, so the lengths may be halved.
+/// How many bytes of the text are also the first bytes of some sheet. What shares more of them with
+/// a sheet shares fewer too, so the number is found by halving.
 pub fn longest_beginning(text: &[u8]) -> usize {
     let (mut good, mut bad) = (0, text.len() + 1);
     while bad - good > 1 {

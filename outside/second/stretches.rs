@@ -1,8 +1,9 @@
-//! Time from tick 0 on, cut where a row is released when every row is released at 0 and then as often as its spacing allows.
+//! Time from tick 0 on, cut where a row is released when every row is released at 0 and then as
+//! often as its spacing allows.
 
 use crate::Row;
 
-/// Ticks `from` up to but not including `to`: in all of them the same releases, worth `work`, have happened.
+/// Ticks `from` to the one before `to`: the releases up to each are the same, and worth `work`.
 #[derive(Clone, Copy)]
 pub struct Stretch {
     pub from: u64,

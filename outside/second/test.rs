@@ -1,4 +1,5 @@
-//! The test in whole ticks: busy period, active period, starts, finishes and responses, each "least" found by looking upward.
+//! The test: busy period, active period, starts, finishes and responses, each least value found by
+//! looking upward.
 
 use crate::stretches::Stretches;
 use crate::{Placed, HORIZON};
@@ -16,9 +17,10 @@ impl Row {
     }
 }
 
-/// The least t of at least 1, up to `limit`, with t = extra + the sum over `rows` of ceil(t/T)·C.
+/// The first t from 1 to `limit` at which `extra` and the work that `rows` release before t make t.
 ///
-/// ceil(t/T) counts the releases before t. So in a stretch every t after its first tick, its end included, has one right side.
+/// In a stretch every t after its first tick, its end included, has the same releases before it,
+/// which ceil(t/T) counts for a row.
 fn least_idle(rows: &[Row], extra: u64, limit: u64) -> Option<u64> {
     for stretch in Stretches::of(rows) {
         let t = extra + stretch.work;
@@ -36,7 +38,7 @@ pub fn busy_period(rows: &[Row]) -> Option<u64> {
     least_idle(rows, 0, HORIZON)
 }
 
-/// What the test sees of one row of a plan: the row, the rows above it, its blocking, and its jobs K.
+/// What the test sees of a row of a plan: the row, the rows above it, its blocking, and its jobs K.
 pub struct Level {
     own: Row,
     above: Vec<Row>,
@@ -53,7 +55,8 @@ impl Level {
     }
 
     pub fn of(rows: &[Row], placed: &[Placed], i: usize) -> Level {
-        let others = |higher: bool| (0..rows.len()).filter(move |&j| j != i && (placed[j].rank < placed[i].rank) == higher);
+        let others =
+            |higher: bool| (0..rows.len()).filter(move |&j| j != i && (placed[j].rank < placed[i].rank) == higher);
         let above = others(true).map(|j| rows[j]).collect();
         let blocking = others(false).map(|j| u64::from(placed[j].length) - 1).max().unwrap_or(0);
         Level::new(rows[i], above, blocking)
@@ -61,8 +64,9 @@ impl Level {
 
     /// The start of each job from 1 to K.
     ///
-    /// floor(s/T)+1 counts the releases up to and with s. So in a stretch job k has one candidate, and the first stretch
-    /// that holds its candidate holds its start; a later job's candidate is later.
+    /// floor(s/T)+1 counts the releases up to and with s. So in a stretch job k has one candidate,
+    /// and the first stretch that holds its candidate holds its start; a later job's candidate is
+    /// later.
     fn starts(&self, length: u64) -> Vec<u64> {
         let mut starts = vec![];
         for stretch in Stretches::of(&self.above) {

@@ -1,5 +1,5 @@
-//! The C surface of a planner in Rust: its checks, its texts and its seven names. The crate that takes it in adds the
-//! modules `search`, `response` and `play`.
+//! The C surface of a planner in Rust: its checks, its texts and its seven names. The crate that
+//! takes it in adds the modules `search`, `response` and `play`.
 
 pub mod answer;
 pub mod checks;

@@ -1,4 +1,5 @@
-//! A text sheet read in one pass: each step takes one more part of the text or says where the text went wrong.
+//! A text sheet read in one pass: each step takes one more part of the text or says where the text
+//! went wrong.
 
 use super::answer::Refusal;
 use super::rows::{MOST, PLACES};
