@@ -1,10 +1,12 @@
 # The README's two commands, make test and make run, and what licensees and the curious need besides.
 .PHONY: test run lib program sheets kit sheet-is-there
 
-# Everything: what is tried from outside on the archive and on the program, then the kit's own
-# verdict, whose last line is the gate's.
-test: kit outside-test sheets
+# Everything: what is tried from outside on the archive and then on the program, since two runs of rt
+# cannot share target/; last the kit's own verdict from nothing, whose last line is the gate's.
+test: kit tools-are-there
 	@rt fmt --check
+	@$(MAKE) --no-print-directory --jobs=2 outside-test
+	@$(MAKE) --no-print-directory sheets
 	@rt ci
 
 # The plan of a sheet, and nothing else, on standard output.
@@ -15,8 +17,10 @@ run: sheet-is-there program
 sheets: program
 	@outside/sheets.sh examples/sheets $(OUTSIDE)/sheets $(X86_RUN) target/bin/planner
 
-# The archive that licensees link, target/staticlib/libtempletbark.a.
+# The archive that licensees link, target/staticlib/libtempletbark.a. What the library stands on is
+# proved first, side by side: rt staticlib by itself takes one crate after the other.
 lib: kit
+	@rt check $(shell sed -n 's/^templetbark://p' crates.txt)
 	@rt staticlib templetbark
 
 # The program, target/bin/planner; what the proofs print goes to a file, and is shown if they fail.
