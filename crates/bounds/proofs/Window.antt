@@ -15,7 +15,7 @@ use Rattle.tables.specs.Table.{Table}
 use Rattle.tables.specs.Jobs.{Jobs, Lawful}
 use Rattle.test.specs.Test.{upto, load}
 use Rattle.test.proofs.Load.{Positive}
-use Rattle.kernel.proofs.Level.{sum-once}
+use Rattle.counting.proofs.Sum.{sum-once}
 
 module _ (tb : Table) (js : Jobs) (lawful : Lawful tb js) (pos : Positive tb) (t₀ : ℕ) where
   -- job k is released in the ticks t₀, .., t₀ + x

@@ -18,7 +18,7 @@ use Rattle.tables.specs.Plan.{Plan}
 use Rattle.tables.specs.Jobs.{Jobs, Lawful}
 use Rattle.test.specs.Test.{before, load}
 use Rattle.test.proofs.Load.{Positive}
-use Rattle.kernel.proofs.Rule.{or-cases, or-left, or-right}
+use Rattle.counting.proofs.Cases.{or-cases, or-left, or-right}
 use Rattle.bounds.proofs.Listing.{size, nth, nth-is, nth-rises, nth-has, sum-keep, sum-pairs, multiples}
 use Rattle.bounds.proofs.Listing.{multiples-apart}
 

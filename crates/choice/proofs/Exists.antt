@@ -16,7 +16,7 @@ use Rattle.test.proofs.Sides.{active-side-level}
 use Rattle.test.proofs.Plans.{level-active, room}
 use Rattle.choice.specs.Choice.{unplaced, Fits, Shortest, Takes, NoneFits, Filled, Chosen, Stopped}
 use Rattle.choice.proofs.Level.{fits-longer, fits-or-not, least-fit}
-use Rattle.choice.proofs.Ranked.{count-le}
+use Rattle.counting.proofs.Sum.{count-le}
 use Rattle.choice.proofs.Placed.{Placed, filled-none, filled-placed}
 use Rattle.choice.proofs.Complete.{chosen-well-formed, chosen-passes, stopped-no-plan}
 

@@ -15,7 +15,8 @@ use Rattle.test.proofs.Load.{Positive}
 use Rattle.test.proofs.Plans.{blocking-is, longest-ge, longest-cases}
 use Rattle.choice.specs.Choice.{unplaced, TakesRank, NoneFitsRank, Filled, Chosen, Stopped}
 use Rattle.choice.proofs.Level.{Alike, fits-alike, takes-alike, takes-unique}
-use Rattle.choice.proofs.Ranked.{Ranked, count-ext, ranked-left, held}
+use Rattle.counting.proofs.Sum.{count-ext}
+use Rattle.choice.proofs.Ranked.{Ranked, ranked-left, held}
 
 pub filled-ranked : {tb : Table} {p : Plan} {r : ℕ} → Filled tb p r → Ranked tb p r
 filled-ranked f = record { high = f .high; once = f .once; left = f .left }

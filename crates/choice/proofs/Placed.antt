@@ -15,7 +15,8 @@ use Rattle.test.proofs.Load.{Positive}
 use Rattle.test.proofs.Plans.{blocking-is, longest-ge, longest-cases}
 use Rattle.choice.specs.Choice.{unplaced, TakesRank, Filled}
 use Rattle.choice.proofs.Level.{takes-alike}
-use Rattle.choice.proofs.Ranked.{count-ext, count-le, unplaced-next}
+use Rattle.counting.proofs.Sum.{count-ext, count-le}
+use Rattle.choice.proofs.Ranked.{unplaced-next}
 use Rattle.choice.proofs.Filled.{Agree, agree-alike}
 
 -- a plan that has placed nothing is filled to n

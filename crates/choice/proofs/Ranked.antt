@@ -1,15 +1,15 @@
 -- Laws of ranks: where the ranks greater than r are held once each and r rows are left, every such rank has its row.
 use Prim.Native.Nat.{ℕ, zero, suc, _+_, _-_, _≤_, _<_}
-use mathlib.Core.Path.{_≡_, refl, ap, sym, _∙_}
-use mathlib.Core.Bool.{Bool, true, false, not}
+use mathlib.Core.Path.{_≡_, ap, sym, _∙_}
+use mathlib.Core.Bool.{Bool, true, not}
 use native.Mathlib.Omega.{arith}
 use lib.Dec.{eqb}
 use borrow.Author.Tests.{eqb-true, eq-eqb, le-leb, lt-leb}
-use Rattle.counting.specs.Sum.{given, without, count}
+use Rattle.counting.specs.Sum.{without, count}
 use Rattle.counting.proofs.Cases.{by-bool, by-le, by-eq, not-both}
 use Rattle.counting.proofs.Search.{all, all-at, all-not}
-use Rattle.counting.proofs.Sum.{without-same, without-other, given-no, given-sub, sum-le, sum-ext, sum-zero}
-use Rattle.counting.proofs.Sum.{count-without, count-all}
+use Rattle.counting.proofs.Sum.{without-same, without-other}
+use Rattle.counting.proofs.Sum.{count-without, count-all, count-ext, count-none}
 use Rattle.tables.specs.Table.{Table}
 use Rattle.tables.specs.Plan.{Plan, WellFormed}
 use Rattle.choice.specs.Choice.{unplaced}
@@ -19,23 +19,6 @@ pub record Ranked (tb : Table) (p : Plan) (r : ℕ) : Type 0 where
   pub high : (i : ℕ) → i < tb .n → p .rank i ≤ tb .n
   pub once : (i j : ℕ) → i < tb .n → j < tb .n → r < p .rank i → p .rank i ≡ p .rank j → i ≡ j
   pub left : count (unplaced p r) (tb .n) ≡ r
-
-pub count-ext : (P Q : ℕ → Bool) (n : ℕ) → ((j : ℕ) → j < n → P j ≡ Q j) → count P n ≡ count Q n
-unfolding count
-count-ext P Q n h = sum-ext _ _ n (λ j l. ap (λ b. given b 1) (h j l))
-
-pub count-none : (P : ℕ → Bool) (n : ℕ) → ((j : ℕ) → j < n → P j ≡ false) → count P n ≡ 0
-unfolding count
-count-none P n h = sum-zero (λ j. given (P j) 1) n (λ j l. given-no (P j) 1 (h j l))
-
-pub count-le : (P : ℕ → Bool) (n : ℕ) → count P n ≤ n
-unfolding count
-count-le P n =
-    omega (
-      arith,
-      sum-le (λ j. given (P j) 1) (λ j. given true 1) n (λ j l. given-sub (P j) true 1 (λ _. refl)),
-      count-all n,
-    )
 
 -- the row of a rank, or there is none
 pub holder {ℓ} : {X : Type ℓ} (p : Plan) (n s : ℕ) → ((y : ℕ) → y < n → p .rank y ≡ s → X) →

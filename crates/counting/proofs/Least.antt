@@ -1,14 +1,14 @@
 -- Laws of the least number of a kind, and of the least fixed point of a function that never falls: bound, below,
 -- compare, iterate.
-use Prim.Native.Nat.{ℕ, zero, suc, _+_, _-_, _≤_, _<_}
-use mathlib.Core.Path.{_≡_, refl, ap, sym, _∙_}
+use Prim.Native.Nat.{ℕ, zero, suc, _-_, _≤_, _<_}
+use mathlib.Core.Path.{_≡_, sym}
 use mathlib.Core.Bool.{Bool, true, false}
 use native.Mathlib.Omega.{arith}
 use lib.Dec.{eqb}
-use borrow.Author.Tests.{eqb-true, eqb-false, eq-eqb}
+use borrow.Author.Tests.{eqb-true, eq-eqb}
 use Rattle.counting.specs.Least.{Least}
 use Rattle.counting.proofs.Cases.{by-eq, by-le}
-use Rattle.counting.proofs.Search.{first, first-ge, first-before, first-found, first-within}
+use Rattle.counting.proofs.Search.{first, first-ge, first-before, first-found}
 
 pub least-unique : {E : ℕ → Type 0} {lo a b : ℕ} → Least E lo a → Least E lo b → a ≡ b
 least-unique {E} {lo} {a} {b} l m = omega (arith, l .least b (m .low) (m .holds), m .least a (l .low) (l .holds))

@@ -1,6 +1,6 @@
 -- Searches that compute: the first number at which a test passes, and whether it passes at all numbers below n.
 use Prim.Native.Nat.{ℕ, zero, suc, _+_, _≤_, _<_}
-use mathlib.Core.Path.{_≡_, refl, sym, ap, _∙_}
+use mathlib.Core.Path.{_≡_, refl, ap, _∙_}
 use mathlib.Core.Bool.{Bool, true, false}
 use native.Mathlib.Omega.{arith}
 use Rattle.counting.proofs.Cases.{by-bool, by-eq, not-both}
@@ -79,3 +79,13 @@ all-not P (suc n) e =
     by-bool (all P n)
     (λ a. (n, omega arith, rw (a, all) at e))
     (λ a. let r = all-not P n a in (r .0, omega arith, r .2))
+
+-- no number below n passes, or some number does
+pub by-any {ℓ} : {X : Type ℓ} (P : ℕ → Bool) (n : ℕ) → (((k : ℕ) → k < n → P k ≡ false) → X) →
+    ((k : ℕ) → k < n → P k ≡ true → X) → X
+by-any P zero f g = f (λ k l. absurd (omega arith))
+by-any P (suc n) f g =
+    by-bool (P n)
+    (λ e. g n (omega arith) e)
+    (λ e. by-any P n (λ h. f (λ k l. by-eq k n (λ q. ap P q ∙ e) (λ q. h k (omega arith))))
+    (λ k l q. g k (omega arith) q))

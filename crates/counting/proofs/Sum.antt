@@ -1,5 +1,5 @@
 -- Laws of sums, largest values and counts over the numbers below n.
-use Prim.Native.Nat.{ℕ, zero, suc, _+_, _-_, _*_, max, _≤_, _<_}
+use Prim.Native.Nat.{ℕ, zero, suc, _+_, _-_, _*_, _≤_, _<_}
 use mathlib.Core.Path.{_≡_, refl, ap, sym, _∙_, subst, fun-ext}
 use mathlib.Core.Bool.{Bool, true, false, _&&_, not}
 use native.Mathlib.Omega.{arith}
@@ -207,3 +207,38 @@ pub sum-more : (f : ℕ → ℕ) (a b : ℕ) → a ≤ b → sum f a ≤ sum f b
 sum-more f a b h =
     let q : a + (b - a) ≡ b = omega arith in
     omega (arith, sum-shift f a (b - a), ap (sum f) q)
+
+-- what at most one number below n is counted for is counted once at most
+pub sum-once : (P : ℕ → Bool) (b n : ℕ) → ((k l : ℕ) → k < n → l < n → P k ≡ true → P l ≡ true → k ≡ l) →
+    sum (λ k. given (P k) b) n ≤ b
+unfolding sum
+sum-once P b zero once = omega arith
+sum-once P b (suc n) once =
+    by-bool (P n)
+    (λ e.
+    omega (
+      arith,
+      given-yes (P n) b e,
+      sum-zero (λ k. given (P k) b) n
+          (λ k l. by-bool (P k)
+          (λ f. absurd (omega (arith, once k n (omega arith) (omega arith) f e)))
+          (λ f. given-no (P k) b f)),
+    ))
+    (λ e. omega (arith, given-no (P n) b e, sum-once P b n (λ k l g h. once k l (omega arith) (omega arith))))
+
+pub count-ext : (P Q : ℕ → Bool) (n : ℕ) → ((j : ℕ) → j < n → P j ≡ Q j) → count P n ≡ count Q n
+unfolding count
+count-ext P Q n h = sum-ext _ _ n (λ j l. ap (λ b. given b 1) (h j l))
+
+pub count-none : (P : ℕ → Bool) (n : ℕ) → ((j : ℕ) → j < n → P j ≡ false) → count P n ≡ 0
+unfolding count
+count-none P n h = sum-zero (λ j. given (P j) 1) n (λ j l. given-no (P j) 1 (h j l))
+
+pub count-le : (P : ℕ → Bool) (n : ℕ) → count P n ≤ n
+unfolding count
+count-le P n =
+    omega (
+      arith,
+      sum-le (λ j. given (P j) 1) (λ j. given true 1) n (λ j l. given-sub (P j) true 1 (λ _. refl)),
+      count-all n,
+    )

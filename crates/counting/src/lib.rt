@@ -1,6 +1,6 @@
-// Rounding up, the one place where the planner divides and rounds.
+// Rounding up, the one place where the planner divides and rounds; and the larger of two numbers.
 ghost use mathlib.Core.Path.{_≡_};
-ghost use Prim.Native.Nat.{_+_, _<_, _≤_};
+ghost use Prim.Native.Nat.{_+_, max, _<_, _≤_};
 ghost use Rattle.counting.specs.Up.{up};
 
 // x / d rounded up: d less one is added, then divided.
@@ -9,4 +9,13 @@ pub fn round_up(x: u64, d: u64) -> u64
     ensures { λ r. ⌜ r ≡ up x d ⌝ }
 {
     (x + (d - 1)) / d
+}
+
+pub fn larger(a: u64, b: u64) -> u64
+    ensures { λ r. ⌜ r ≡ max a b ⌝ }
+{
+    if a < b {
+        return b;
+    }
+    a
 }

@@ -10,7 +10,8 @@ use lib.Dec.{eqb, ltb, leb}
 use borrow.Author.Tests.{lt-ltb, le-ltb, ltb-true, le-leb, lt-leb, leb-true, eq-eqb, ne-eqb}
 use Rattle.counting.specs.Sum.{given, sum}
 use Rattle.counting.proofs.Cases.{by-bool, by-le, by-eq, not-both, and-left, and-right, and-both}
-use Rattle.counting.proofs.Sum.{given-yes, given-no, sum-le, sum-ext, sum-add, sum-delta, sum-zero}
+use Rattle.counting.proofs.Search.{by-any}
+use Rattle.counting.proofs.Sum.{sum-once, given-yes, given-no, sum-le, sum-ext, sum-add, sum-delta, sum-zero}
 use Rattle.tables.specs.Table.{Table}
 use Rattle.tables.specs.Plan.{Plan}
 use Rattle.tables.specs.Jobs.{Jobs}
@@ -18,34 +19,6 @@ use Rattle.kernel.specs.Rule.{job, idle, locked}
 use Rattle.kernel.specs.Rule as S
 use Rattle.kernel.proofs.Rule as R
 use Rattle.kernel.proofs.Executed as X
-
--- what at most one number below n is counted for is counted once at most
-pub sum-once : (P : ℕ → Bool) (b n : ℕ) → ((k l : ℕ) → k < n → l < n → P k ≡ true → P l ≡ true → k ≡ l) →
-    sum (λ k. given (P k) b) n ≤ b
-unfolding sum
-sum-once P b zero once = omega arith
-sum-once P b (suc n) once =
-    by-bool (P n)
-    (λ e.
-    omega (
-      arith,
-      given-yes (P n) b e,
-      sum-zero (λ k. given (P k) b) n
-          (λ k l. by-bool (P k)
-          (λ f. absurd (omega (arith, once k n (omega arith) (omega arith) f e)))
-          (λ f. given-no (P k) b f)),
-    ))
-    (λ e. omega (arith, given-no (P n) b e, sum-once P b n (λ k l g h. once k l (omega arith) (omega arith))))
-
--- no number below n passes, or some number does
-by-any {ℓ} : {X : Type ℓ} (P : ℕ → Bool) (n : ℕ) → (((k : ℕ) → k < n → P k ≡ false) → X) →
-    ((k : ℕ) → k < n → P k ≡ true → X) → X
-by-any P zero f g = f (λ k l. absurd (omega arith))
-by-any P (suc n) f g =
-    by-bool (P n)
-    (λ e. g n (omega arith) e)
-    (λ e. by-any P n (λ h. f (λ k l. by-eq k n (λ q. ap P q ∙ e) (λ q. h k (omega arith))))
-    (λ k l q. g k (omega arith) q))
 
 given-suc : (b : Bool) (x : ℕ) → given b (suc x) ≡ given b x + given b 1
 given-suc true x = omega arith

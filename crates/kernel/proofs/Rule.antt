@@ -2,33 +2,19 @@
 -- and that the position of a job in a lawful list never decides.
 use Prim.Native.Nat.{ℕ, zero, suc, _≤_, _<_}
 use mathlib.Core.Path.{_≡_, refl, ap, sym, _∙_, subst}
-use mathlib.Core.Bool.{Bool, true, false, _&&_, _||_}
+use mathlib.Core.Bool.{Bool, true, false, _&&_}
 use mathlib.Core.Logic.{⊎-elim}
 use native.Mathlib.Omega.{arith}
 use lib.Dec.{eqb, ltb, leb}
 use borrow.Author.Tests.{lt-ltb, ltb-true, le-leb, leb-true, eq-eqb, eqb-true}
-use Rattle.counting.specs.Sum.{given, count}
+use Rattle.counting.specs.Sum.{count}
 use Rattle.counting.proofs.Cases.{by-bool, by-le, by-eq, not-both, and-left, and-right, and-both}
-use Rattle.counting.proofs.Sum.{given-no, sum-zero, count-zero}
+use Rattle.counting.proofs.Cases.{or-cases, or-left, or-right}
+use Rattle.counting.proofs.Sum.{count-zero, count-none}
 use Rattle.tables.specs.Table.{Table, Sound}
 use Rattle.tables.specs.Plan.{Plan, WellFormed}
 use Rattle.tables.specs.Jobs.{Jobs, Lawful}
 use Rattle.kernel.specs.Rule.{Pick, job, idle, one-of, locked, unfinished, runs-on, pending, ahead, leads, pick}
-
-pub or-cases {ℓ} : {X : Type ℓ} (a b : Bool) → (a || b) ≡ true → (a ≡ true → X) → (b ≡ true → X) → X
-or-cases true b e f g = f refl
-or-cases false b e f g = g e
-
-pub or-left : (a b : Bool) → a ≡ true → (a || b) ≡ true
-or-left a b e = rw e
-
-pub or-right : (a b : Bool) → b ≡ true → (a || b) ≡ true
-or-right true b e = refl
-or-right false b e = e
-
-count-none : (P : ℕ → Bool) (n : ℕ) → ((j : ℕ) → j < n → P j ≡ false) → count P n ≡ 0
-unfolding count
-count-none P n h = sum-zero (λ j. given (P j) 1) n (λ j l. given-no (P j) 1 (h j l))
 
 one-of-hit : (P : ℕ → Bool) (n : ℕ) (other : Pick) → P n ≡ true → one-of P (suc n) other ≡ job n
 unfolding one-of

@@ -2,7 +2,6 @@
 use Prim.Native.Nat.{ℕ, _^_, _<_}
 use mathlib.Core.Path.{_≡_, sym, ap, _∙_}
 use mathlib.Core.Bool.{Bool}
-use native.Mathlib.Omega.{arith}
 use Rattle.counting.proofs.Least.{least-unique}
 use Rattle.marks.specs.inside.Marks.{Whole, Next, Less, More}
 use Rattle.marks.proofs.Marks.{same-marks}

@@ -22,7 +22,7 @@ use Rattle.test.proofs.Plans.{room, blocking-is, longest-cases}
 use Rattle.responses.proofs.Stored.{zeros}
 use Rattle.choice.specs.Choice.{unplaced, Takes, TakesRank, NoneFits, Filled}
 use Rattle.choice.proofs.Level.{Alike, takes-alike, none-alike}
-use Rattle.choice.proofs.Ranked.{count-le}
+use Rattle.counting.proofs.Sum.{count-le}
 use Rattle.choice.proofs.Filled.{Agree, agree-alike}
 use Rattle.choice.proofs.Placed.{Placed, filled-none, placed-agree, filled-placed, blocking-placed}
 use Rattle.plan.specs.inside.Ended.{Ended}

@@ -39,7 +39,7 @@ pub fn fill(rows: [Row; 32], n: usize) -> Filling
         plan[at] = rank;
         plan[at + 1] = len;
         times[i] = response;
-        blocking = search::larger(blocking, (len - 1) as u64);
+        blocking = counting::larger(blocking, (len - 1) as u64);
         unplaced = marks::less(unplaced, row);
     }
     Filling {

@@ -1,14 +1,13 @@
 -- Every finish tick that play gives is at most 1,000,000 + 4,096 × 1,000,000: document 01, "Finish output".
 use Prim.Native.Nat.{ℕ, _+_, _*_, _≤_, _<_}
 use mathlib.Core.Path.{_≡_, refl}
-use mathlib.Core.Logic.{_⊎_, ⊎-elim}
 use mathlib.Core.List.{List, [], _∷_}
 use native.Mathlib.Omega.{arith}
 use lib.ListN.{getD}
 use Rattle.tables.specs.Table.{tableOf, most}
 use Rattle.tables.specs.Plan.{planOf}
 use Rattle.tables.specs.Jobs.{jobsOf, most-jobs, last-release}
-use Rattle.tables.specs.Refusal.{Check, Result, Refused}
+use Rattle.tables.specs.Refusal.{Result}
 use Rattle.tables.specs.Checks.{shape, range, plan-form, jobs-shape, job-rules, room}
 use Rattle.tables.proofs.Answered.{granted}
 use Rattle.tables.proofs.Clear.{sound-of-clear, jobs-of-clear}

@@ -10,7 +10,7 @@ use Rattle.counting.proofs.Cases.{by-eq}
 use Rattle.tables.specs.Table.{row-width, most-rows, tableOf}
 use Rattle.tables.specs.Answer.{numberOf, placeOf, valueOf, resultOf}
 use Rattle.tables.specs.declared.Answer.{Answer}
-use Rattle.tables.specs.Refusal.{Check, Result, Granted, Answered}
+use Rattle.tables.specs.Refusal.{Result}
 use Rattle.tables.specs.Checks.{Rows, shape, range, room}
 use Rattle.tables.proofs.Answered.{granted}
 use Rattle.tables.proofs.Clear.{rows-of-shape}

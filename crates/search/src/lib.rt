@@ -1,6 +1,6 @@
 // The search for one rank: the unplaced row with the least shortest passing length, the earliest among equals.
 ghost use mathlib.Core.Path.{_≡_};
-ghost use Prim.Native.Nat.{_+_, _-_, min, max, _≤_, _<_};
+ghost use Prim.Native.Nat.{_+_, _-_, min, _≤_, _<_};
 ghost use Rattle.marks.specs.inside.Marks.{marked};
 ghost use Rattle.tables.specs.Table.{most};
 ghost use Rattle.tables.specs.inside.Rows.{tableIn};
@@ -11,15 +11,6 @@ use tables::Row;
 pub enum Pick {
     Taken(u32, u32, u32),
     Nothing,
-}
-
-pub fn larger(a: u64, b: u64) -> u64
-    ensures { λ r. ⌜ r ≡ max a b ⌝ }
-{
-    if a < b {
-        return b;
-    }
-    a
 }
 
 // The longest length worth a try: the least of C and the best length so far less 1. A row that cannot beat the best
@@ -96,7 +87,7 @@ pub fn choose(rows: [Row; 32], n: usize, unplaced: u32, tried: u32, blocking: u6
                     }
                     s = next;
                 };
-                largest = larger(largest, start + len - released);
+                largest = counting::larger(largest, start + len - released);
                 if k == jobs {
                     break 'jobs true;
                 }

@@ -1,11 +1,11 @@
 -- Any two results that the promise of a function of this crate allows are equal.
-use Prim.Native.Nat.{ℕ, _*_}
+use Prim.Native.Nat.{ℕ}
 use mathlib.Core.Path.{_≡_, refl, sym, ap, _∙_}
 use mathlib.Core.List.{List, [], _∷_}
 use native.Mathlib.Omega.{arith}
 use lib.ListN.{length, getD}
 use lib.Seq.{ext-getD}
-use Rattle.tables.specs.Table.{Table, row-width}
+use Rattle.tables.specs.Table.{Table}
 use Rattle.tables.specs.Refusal.{Result}
 use Rattle.tables.specs.Answer.{numberOf, placeOf, valueOf, resultOf}
 use Rattle.tables.specs.inside.Rows.{no, tableIn}

@@ -6,7 +6,7 @@ use mathlib.Core.Logic.{_⊎_}
 use mathlib.Core.List.{List}
 use lib.ListN.{length, getD}
 use Rattle.counting.specs.Least.{Least}
-use Rattle.tables.specs.Table.{Table, Within, row-width, most-rows, tableOf}
+use Rattle.tables.specs.Table.{Table, Within, row-width, most-rows}
 use Rattle.tables.specs.Plan.{Plan, plan-width, cap, planOf}
 use Rattle.tables.specs.Jobs.{Jobs, job-width, most-jobs, last-release, jobsOf}
 use Rattle.tables.specs.Planned.{planned-width}

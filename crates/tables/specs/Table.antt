@@ -1,6 +1,5 @@
 -- Task tables: document 01, "Tables", the item "Task table".
 use Prim.Native.Nat.{ℕ, _+_, _*_, _/_, _≤_, _<_}
-use mathlib.Core.Path.{_≡_}
 use mathlib.Core.List.{List}
 use lib.ListN.{length, getD}
 

@@ -1,18 +1,18 @@
 -- The comparisons of responses: by the load of the level, over two tables; and by the row's own length. What is smaller
 -- exists where the larger does.
-use Prim.Native.Nat.{ℕ, suc, _+_, _-_, _*_, _/_, _≤_, _<_}
-use mathlib.Core.Path.{_≡_, refl, ap, sym, _∙_, subst}
-use mathlib.Core.Bool.{Bool, true, false}
+use Prim.Native.Nat.{ℕ, suc, _+_, _-_, _≤_, _<_}
+use mathlib.Core.Path.{_≡_, refl, subst}
+use mathlib.Core.Bool.{Bool}
 use native.Mathlib.Omega.{arith}
 use native.Mathlib.Nat.{mul-le-mul, mul-le-mul-left, mul-le-mul-right, le-trans}
 use Rattle.counting.proofs.Up.{up-mono, up-anti}
 use Rattle.counting.proofs.Least.{least-compare, least-unique}
 use Rattle.tables.specs.Table.{Table}
-use Rattle.test.specs.Test.{before, upto, load, Active, active-side, jobs, Start, start-side, Finish, Response}
+use Rattle.test.specs.Test.{before, upto, load, Active, active-side, jobs, Start, start-side, Response}
 use Rattle.test.proofs.Load.{Positive, load-upto, load-upto-mono}
 use Rattle.test.proofs.Sides.{active-side-is, active-side-mono, active-side-up, start-side-is, start-side-whole}
 use Rattle.test.proofs.Sides.{start-side-mono}
-use Rattle.test.proofs.Starts.{start-exists, start-low, start-prefix}
+use Rattle.test.proofs.Starts.{start-exists, start-prefix}
 use Rattle.test.proofs.Response.{response-exists, response-unique}
 
 -- Load: row i of one table against row i of another that has no smaller C and no larger T there, where the level asks

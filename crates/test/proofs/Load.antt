@@ -1,14 +1,13 @@
 -- Laws of the load: what rows ask for never falls with time, grows with the rows, and a row is taken out of it by its
 -- own part.
-use Prim.Native.Nat.{ℕ, suc, _+_, _*_, _/_, _≤_, _<_}
-use mathlib.Core.Path.{_≡_, refl, ap, sym, _∙_}
-use mathlib.Core.Bool.{Bool, true, false}
+use Prim.Native.Nat.{ℕ, suc, _+_, _*_, _≤_, _<_}
+use mathlib.Core.Path.{_≡_, refl, ap, sym}
+use mathlib.Core.Bool.{Bool, true}
 use native.Mathlib.Omega.{arith}
 use native.Mathlib.Nat.{mul-le-mul-right}
-use Rattle.counting.specs.Up.{up}
-use Rattle.counting.specs.Sum.{given, without, sum}
+use Rattle.counting.specs.Sum.{given, without}
 use Rattle.counting.proofs.Up.{div-mono, up-mono, up-suc, up-pos}
-use Rattle.counting.proofs.Sum.{sum-le, sum-ext, sum-without, given-le, given-sub, given-yes, sum-ge}
+use Rattle.counting.proofs.Sum.{sum-le, sum-ext, sum-without, given-le, given-sub}
 use Rattle.counting.proofs.Least.{Mono}
 use Rattle.tables.specs.Table.{Table, Sound}
 use Rattle.test.specs.Test.{before, upto, load, every-row, busy-side}

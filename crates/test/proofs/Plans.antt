@@ -1,18 +1,18 @@
 -- Laws of a plan's rows: blocking, and that under a busy period within H every active period and every response exists,
 -- within it.
-use Prim.Native.Nat.{ℕ, pred, suc, _+_, _-_, _*_, _/_, _≤_, _<_}
+use Prim.Native.Nat.{ℕ, pred, suc, _+_, _-_, _≤_, _<_}
 use mathlib.Core.Path.{_≡_, refl, ap, sym, _∙_, subst}
-use mathlib.Core.Bool.{Bool, true, false}
+use mathlib.Core.Bool.{Bool, false}
 use native.Mathlib.Omega.{arith}
 use lib.Dec.{leb, ltb}
-use borrow.Author.Tests.{ltb-true, ltb-false, leb-true, le-leb, lt-ltb}
-use Rattle.counting.specs.Sum.{given, without, largest}
+use borrow.Author.Tests.{ltb-true, leb-true, le-leb, lt-ltb}
+use Rattle.counting.specs.Sum.{given, without}
 use Rattle.counting.proofs.Cases.{by-bool, not-both}
 use Rattle.counting.proofs.Sum.{without-intro, given-yes, given-no, largest-ge, largest-cases}
 use Rattle.counting.proofs.Least.{least-bound, least-unique}
 use Rattle.tables.specs.Table.{Table, Sound}
 use Rattle.tables.specs.Plan.{Plan, WellFormed, blocks}
-use Rattle.test.specs.Test.{horizon, before, upto, load, every-row, busy-side, BusyWithin, Active, active-side}
+use Rattle.test.specs.Test.{horizon, before, load, every-row, busy-side, BusyWithin, Active, active-side}
 use Rattle.test.specs.Test.{Response, above, below, longest, blocking, ResponseOf}
 use Rattle.test.specs.Answers.{Bounded}
 use Rattle.test.proofs.Load.{Positive, sound-positive, load-sub, load-ext, load-without, run-asked}

@@ -1,13 +1,13 @@
 -- Laws of the response: it exists where the active period does, there is one only, and it lies between C and the active
 -- period.
-use Prim.Native.Nat.{ℕ, zero, suc, _+_, _-_, _*_, _/_, _≤_, _<_}
-use mathlib.Core.Path.{_≡_, refl, ap, sym, _∙_, subst}
-use mathlib.Core.Bool.{Bool, true, false}
+use Prim.Native.Nat.{ℕ, zero, suc, _+_, _-_, _*_, _≤_, _<_}
+use mathlib.Core.Path.{_≡_, refl, ap, sym, subst}
+use mathlib.Core.Bool.{Bool}
 use native.Mathlib.Omega.{arith}
 use Rattle.counting.proofs.Cases.{by-le, by-eq}
 use Rattle.counting.proofs.Least.{least-unique}
 use Rattle.tables.specs.Table.{Table}
-use Rattle.test.specs.Test.{Active, jobs, Start, Finish, Response}
+use Rattle.test.specs.Test.{Active, jobs, Finish, Response}
 use Rattle.test.proofs.Load.{Positive}
 use Rattle.test.proofs.Starts.{jobs-some, start-low, start-exists, finish-high, start-after}
 

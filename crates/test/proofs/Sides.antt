@@ -1,7 +1,7 @@
 -- Laws of the right sides of the active period and of the starts: they never fall, and nothing is cut off.
-use Prim.Native.Nat.{ℕ, suc, _+_, _-_, _*_, _/_, _≤_, _<_}
-use mathlib.Core.Path.{_≡_, refl, ap, sym, _∙_}
-use mathlib.Core.Bool.{Bool, true, false}
+use Prim.Native.Nat.{ℕ, _+_, _-_, _*_, _≤_, _<_}
+use mathlib.Core.Path.{_≡_, refl}
+use mathlib.Core.Bool.{Bool, true}
 use native.Mathlib.Omega.{arith}
 use native.Mathlib.Nat.{mul-le-mul-right}
 use Rattle.counting.specs.Sum.{without}
@@ -9,7 +9,7 @@ use Rattle.counting.proofs.Up.{up-mono}
 use Rattle.counting.proofs.Least.{Mono}
 use Rattle.tables.specs.Table.{Table}
 use Rattle.test.specs.Test.{before, upto, load, active-side, start-side}
-use Rattle.test.proofs.Load.{Positive, load-mono, load-upto-mono, load-upto, load-without, run-asked}
+use Rattle.test.proofs.Load.{Positive, load-mono, load-upto-mono, load-without, run-asked}
 
 module _ (tb : Table) (P : ℕ → Bool) (b i : ℕ) where
   -- the text of each side, for omega

@@ -1,17 +1,16 @@
 -- Laws of the starts within an active period: they exist, lie where they must, and each follows the one before by at
 -- least C.
-use Prim.Native.Nat.{ℕ, zero, suc, _+_, _-_, _*_, _/_, _≤_, _<_}
-use mathlib.Core.Path.{_≡_, refl, ap, sym, _∙_}
-use mathlib.Core.Bool.{Bool, true, false}
+use Prim.Native.Nat.{ℕ, suc, _+_, _-_, _*_, _≤_, _<_}
+use mathlib.Core.Bool.{Bool}
 use native.Mathlib.Omega.{arith}
 use native.Mathlib.Nat.{mul-le-mul-right}
 use Rattle.counting.proofs.Cases.{by-le, by-eq}
 use Rattle.counting.proofs.Up.{up-le, up-pos}
 use Rattle.counting.proofs.Least.{least-bound, least-prefix, least-below, least-unique}
 use Rattle.tables.specs.Table.{Table}
-use Rattle.test.specs.Test.{before, upto, load, Active, active-side, jobs, Start, start-side}
+use Rattle.test.specs.Test.{upto, load, Active, active-side, jobs, Start, start-side}
 use Rattle.test.proofs.Load.{Positive, load-mono, load-upto-mono, load-upto}
-use Rattle.test.proofs.Sides.{active-side-is, active-side-mono, active-side-up, start-side-is, start-side-whole}
+use Rattle.test.proofs.Sides.{active-side-is, active-side-mono, active-side-up, start-side-whole}
 use Rattle.test.proofs.Sides.{start-side-mono}
 
 module _ (tb : Table) (P : ℕ → Bool) (b i : ℕ) (pos : Positive tb) (l : i < tb .n) where

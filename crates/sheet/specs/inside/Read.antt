@@ -1,7 +1,7 @@
 -- What the readers of lines answer: each case of their enums, said of the line that is read.
 use Prim.Native.Nat.{ℕ, _+_, _*_, _≤_}
 use mathlib.Core.Path.{_≡_}
-use mathlib.Core.List.{List, [], _∷_, _++_}
+use mathlib.Core.List.{List, _++_}
 use lib.ListN.{length, drop}
 use Rattle.tables.specs.Table.{row-width, most-rows}
 use Rattle.reading.specs.Begins.{Between}

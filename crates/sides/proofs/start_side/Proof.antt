@@ -1,5 +1,5 @@
 -- `start_side` meets its contract: what is asked for up to and with s is what is asked for before s + 1.
-use Prim.Native.Nat.{_≤_, _+_, _*_}
+use Prim.Native.Nat.{_≤_, _*_}
 use mathlib.Core.Path.{ap}
 use native.Mathlib.Nat.{mul-le-mul, mul-le-mul-right}
 use native.Mathlib.Numerals.{add-one}
