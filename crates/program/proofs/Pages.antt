@@ -8,8 +8,6 @@ use lib.ListN.{length, take}
 use lib.Seq.{length-take-le}
 use Rattle.counting.proofs.Cases.{by-eq}
 use Rattle.tables.specs.Table.{row-width, most-rows, tableOf}
-use Rattle.tables.specs.Answer.{numberOf, placeOf, valueOf, resultOf}
-use Rattle.tables.specs.declared.Answer.{Answer}
 use Rattle.tables.specs.Refusal.{Result}
 use Rattle.tables.specs.Checks.{Rows, shape, range, room}
 use Rattle.tables.proofs.Answered.{granted}
@@ -87,30 +85,27 @@ front-given planned len front rows fits p =
 
 -- one text has one page
 module _ {a b : List ℕ} where
-  pages-same : (x y : Answer) → numberOf x ≡ numberOf y → placeOf x ≡ placeOf y →
-      (numberOf x ≡ 0 → numberOf y ≡ 0 → a ≡ b) → Refuses x a → Refuses y b → a ≡ b
-  pages-same x y n p given f g =
-      by-eq (numberOf x) 0
+  pages-same : (x y : Result) → x ≡ y → (x .number ≡ 0 → y .number ≡ 0 → a ≡ b) → Refuses x a → Refuses y b → a ≡ b
+  pages-same x y e given f g =
+      let n = ap (λ (r : Result). r .number) e in
+      by-eq (x .number) 0
       (λ z. given z (sym n ∙ z))
-      (λ z. f z ∙ ap (λ (m : ℕ). refusedLine m (placeOf x)) n ∙ ap (refusedLine (numberOf y)) p
-      ∙ sym (g (λ w. z (n ∙ w))))
+      (λ z. f z ∙ ap (λ (r : Result). refusedLine (r .number) (r .place)) e ∙ sym (g (λ w. z (n ∙ w))))
 
   planned-unique : (table : List ℕ) → PagePlanned table a → PagePlanned table b → a ≡ b
   planned-unique table p q =
-      let e = plan-unique table (blank planned-width) (resultOf (p .answer) (p .after))
-      (resultOf (q .answer) (q .after)) (p .plan) (q .plan) in
-      pages-same (p .answer) (q .answer) (ap (λ (r : Result). r .number) e) (ap (λ (r : Result). r .place) e)
+      let e = plan-unique table (blank planned-width) (p .result) (q .result) (p .plan) (q .plan) in
+      pages-same (p .result) (q .result) e
       (λ z w. p .given z ∙ ap (λ (r : Result). planText (take (r .value) (r .out))) e ∙ sym (q .given w))
       (p .refused)
       (q .refused)
 
   pub page-unique : (text : List ℕ) → Page text a → Page text b → a ≡ b
   page-unique text p q =
-      let e = sheet-unique text (blank row-width) (resultOf (p .answer) (p .after)) (resultOf (q .answer) (q .after))
-      (p .sheet) (q .sheet) in
-      pages-same (p .answer) (q .answer) (ap (λ (r : Result). r .number) e) (ap (λ (r : Result). r .place) e)
+      let e = sheet-unique text (blank row-width) (p .result) (q .result) (p .sheet) (q .sheet) in
+      pages-same (p .result) (q .result) e
       (λ z w.
-      planned-unique (take (valueOf (p .answer)) (p .after)) (p .given z)
+      planned-unique (take (p .result .value) (p .result .out)) (p .given z)
       (subst (λ (r : Result). PagePlanned (take (r .value) (r .out)) b) (sym e) (q .given w)))
       (p .refused)
       (q .refused)
@@ -119,9 +114,8 @@ module _ {a b : List ℕ} where
 pub page-cut : (text : List ℕ) (k : ℕ) (page : List ℕ) → longest-sheet < k → Page (take k text) page → Page text page
 page-cut text k page h p =
     record {
-      answer = p .answer;
-      after = p .after;
-      sheet = cut-same text k h (blank row-width) (resultOf (p .answer) (p .after)) (p .sheet);
+      result = p .result;
+      sheet = cut-same text k h (blank row-width) (p .result) (p .sheet);
       given = p .given;
       refused = p .refused;
     }

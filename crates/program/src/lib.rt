@@ -22,7 +22,7 @@ fn print_planned<'a>(planned: &[u32], page: &'a mut [u8]) -> &'a mut [u8]
     requires { ⌜ Rows planned-width (now planned) × (longest-page ≤ length (now page)) ⌝ }
     ensures { λ r. ⌜ (now r ≡ planText (now (planned .entry))) × (r .ptr ≡ page .entry .ptr) ⌝ }
 {
-    printing::print(planned, page)
+    templetbark::print(planned, page)
 }
 
 // The page of a task table.
@@ -31,7 +31,7 @@ fn reply_table<'a>(table: &[u32], page: &'a mut [u8]) -> &'a mut [u8]
     ensures { λ r. ⌜ PagePlanned (now (table .entry)) (now r) × (r .ptr ≡ page .entry .ptr) ⌝ }
 {
     let mut planned = [0u32; 96];
-    let said = tables::say(plan::plan(table, &mut planned));
+    let said = templetbark::tb_plan(table, &mut planned);
     if said.number != 0 {
         return refuse(page, said.number, said.place);
     }
@@ -45,7 +45,7 @@ pub fn reply<'a>(text: &[u8], page: &'a mut [u8]) -> &'a mut [u8]
     ensures { λ r. ⌜ Page (now (text .entry)) (now r) × (r .ptr ≡ page .entry .ptr) ⌝ }
 {
     let mut table = [0u32; 96];
-    let said = tables::say(sheet::sheet(text, &mut table));
+    let said = templetbark::tb_sheet(text, &mut table);
     if said.number != 0 {
         return refuse(page, said.number, said.place);
     }
