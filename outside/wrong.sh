@@ -36,7 +36,7 @@ wrong() {
     tried=$((tried + 1))
     # shellcheck disable=SC2086
     if ! timeout 300 "$folder/compare" $run "$room/bridge" >"$room/said" 2>&1 && grep -q '^FAULT' "$room/said"; then
-        echo "caught  $1: $(grep -m1 '^FAULT' "$room/said" | cut -c8-100)"
+        printf 'caught  %s: %s\n' "$1" "$(grep -m1 '^FAULT' "$room/said" | cut -c8-100)"
     else
         missed=$((missed + 1))
         echo "MISSED  $1"
