@@ -11,7 +11,7 @@ use measure::Versions;
 fn main() -> std::io::Result<()> {
     let words: Vec<String> = std::env::args().skip(1).collect();
     let start = |at: usize| -> std::io::Result<Bridge> {
-        let words: Vec<String> = words.get(at).map_or("", |w| w).split(' ').map(String::from).collect();
+        let words: Vec<String> = words.get(at).map_or("", |w| w).split_whitespace().map(String::from).collect();
         Bridge::start(&words)
     };
     let mut versions = Versions { library: start(0)?, by_hand: start(1)?, literal: start(2)? };
