@@ -1,4 +1,4 @@
-// The figures of document 01, run: each line as the paper prints it, with the answer that the library gives.
+// The figures of document 01, run: each line as it stands there, with the answer that the library gives.
 use tables::Said;
 
 fn main() {
@@ -51,7 +51,7 @@ fn timed(table: &[u32], plan: &[u32]) {
     io::write_all(1, b"\n");
 }
 
-// A task table, a plan and a job list to its finishes.
+// The finishes of a job list.
 fn played(table: &[u32], plan: &[u32], jobs: &[u32]) {
     let mut out: [u32; 8] = [0; 8];
     let said = templetbark::tb_play(table, plan, jobs, &mut out);

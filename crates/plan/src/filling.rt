@@ -7,15 +7,15 @@ use search::Pick;
 use tables::PLAN_WIDTH;
 use tables::Row;
 
-// The plan, two numbers a row as `times` takes it; each row's response; and the rank at which no row had a passing
-// length, 0 where every rank was filled. Nothing of a plan that is not whole goes out.
+// The plan, two numbers a row as `times` takes it; each row's response; and the rank that no row could take, 0 where
+// every rank was filled. Nothing of a plan that is not whole goes out.
 pub struct Filling {
     pub stopped: u32,
     pub plan: [u32; 64],
     pub times: [u32; 32],
 }
 
-// The rank being filled is the number of rows that are not placed. The rows to try are these rows.
+// As many rows are unplaced as the rank says that is filled next, and all of them are tried.
 pub fn fill(rows: [Row; 32], n: usize) -> Filling
     requires { ⌜ Sound (tableIn rows n) × BusyWithin (tableIn rows n) ⌝ }
     ensures { λ r. ⌜ Ended (tableIn rows n) r ⌝ }

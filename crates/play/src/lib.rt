@@ -81,7 +81,7 @@ fn play_sound(table: &[u32], n: usize, plan: &[u32], jobs: &[u32], out: &mut [u3
     }
 }
 
-// A task table, a plan and a job list to finish ticks, one number a job.
+// The operation: one finish tick a job, at the job's place of the output.
 pub fn play(table: &[u32], plan: &[u32], jobs: &[u32], out: &mut [u32]) -> Answer
     ensures { λ r. ⌜ PlayAnswer (now (table .entry)) (now (plan .entry)) (now (jobs .entry)) (now (out .entry))
         (resultOf r (now (out .exit))) ⌝ }

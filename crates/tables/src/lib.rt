@@ -32,7 +32,7 @@ pub enum Answer {
     NoPlan,
 }
 
-// The answer as the paper has it: the refusal's number, 0 where the answer is given; its place; and the given value.
+// The answer as document 01 has it: the refusal's number, 0 where the answer is given; its place; and the given value.
 #[repr(C)]
 pub struct Said {
     pub number: u32,

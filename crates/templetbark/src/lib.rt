@@ -11,7 +11,7 @@ ghost use Rattle.sheet.specs.Answers.{SheetAnswer};
 ghost use Rattle.printing.specs.Answers.{FitAnswer, PrintAnswer, PrintFront};
 ghost use Rattle.templetbark.specs.Said.{saidOf};
 
-// A task table to ranks, region lengths and response times.
+// plan: ranks, lengths of the final regions and responses for the tasks of a table.
 #[no_mangle]
 pub extern "C" fn tb_plan(table: &[u32], out: &mut [u32]) -> Said
     ensures { λ r. ⌜ PlanAnswer (now (table .entry)) (now (out .entry)) (saidOf r (now (out .exit))) ⌝ }
@@ -19,7 +19,7 @@ pub extern "C" fn tb_plan(table: &[u32], out: &mut [u32]) -> Said
     tables::say(plan::plan(table, out))
 }
 
-// A task table and a plan to response times.
+// times: the response of each row of a table under a plan that is given.
 #[no_mangle]
 pub extern "C" fn tb_times(table: &[u32], plan: &[u32], out: &mut [u32]) -> Said
     ensures { λ r. ⌜ TimesAnswer (now (table .entry)) (now (plan .entry)) (now (out .entry))
@@ -28,7 +28,7 @@ pub extern "C" fn tb_times(table: &[u32], plan: &[u32], out: &mut [u32]) -> Said
     tables::say(times::times(table, plan, out))
 }
 
-// A task table and a plan to yes, 1, where every response is at most its deadline, or no, 0.
+// verdict: 1 where no row's response passes its deadline under the plan that is given, and 0 where one does.
 #[no_mangle]
 pub extern "C" fn tb_verdict(table: &[u32], plan: &[u32]) -> Said
     ensures { λ r. ⌜ VerdictAnswer (now (table .entry)) (now (plan .entry)) (saidOf r []) ⌝ }
@@ -36,7 +36,7 @@ pub extern "C" fn tb_verdict(table: &[u32], plan: &[u32]) -> Said
     tables::say(times::verdict(table, plan))
 }
 
-// A task table, a plan and a job list to finish ticks.
+// play: when each job of a list finishes, under the kernel's dispatch rule and a plan that is given.
 #[no_mangle]
 pub extern "C" fn tb_play(table: &[u32], plan: &[u32], jobs: &[u32], out: &mut [u32]) -> Said
     ensures { λ r. ⌜ PlayAnswer (now (table .entry)) (now (plan .entry)) (now (jobs .entry)) (now (out .entry))
@@ -45,7 +45,7 @@ pub extern "C" fn tb_play(table: &[u32], plan: &[u32], jobs: &[u32], out: &mut [
     tables::say(play::play(table, plan, jobs, out))
 }
 
-// A text sheet to a task table in ticks.
+// sheet: the task table in ticks that a sheet's text says.
 #[no_mangle]
 pub extern "C" fn tb_sheet(text: &[u8], out: &mut [u32]) -> Said
     ensures { λ r. ⌜ SheetAnswer (now (text .entry)) (now (out .entry)) (saidOf r (now (out .exit))) ⌝ }
@@ -53,7 +53,7 @@ pub extern "C" fn tb_sheet(text: &[u8], out: &mut [u32]) -> Said
     tables::say(sheet::sheet(text, out))
 }
 
-// A planned table to text.
+// print: the text of a planned table, at the front of the lent buffer.
 #[no_mangle]
 pub extern "C" fn tb_print(planned: &[u32], buf: &mut [u8]) -> Said
     ensures { λ r. ⌜ PrintAnswer (now (planned .entry)) (now (buf .entry)) (saidOf r (now (buf .exit))) ⌝ }
@@ -61,7 +61,7 @@ pub extern "C" fn tb_print(planned: &[u32], buf: &mut [u8]) -> Said
     tables::say(printing::print_into(planned, buf))
 }
 
-// A planned table and a buffer length to the number of bytes that print writes, or its refusal.
+// fit: what print answers for a buffer of this length, with nothing lent to write to.
 #[no_mangle]
 pub extern "C" fn tb_fit(planned: &[u32], len: usize) -> Said
     ensures { λ r. ⌜ FitAnswer (now (planned .entry)) len (saidOf r []) ⌝ }
@@ -69,7 +69,7 @@ pub extern "C" fn tb_fit(planned: &[u32], len: usize) -> Said
     tables::say(printing::fit(planned, len))
 }
 
-// A planned table to text, for callers in Rattle: the written front of the lent buffer itself, empty on a refusal.
+// print, for callers in Rattle: hands back that front of the lent buffer, empty on a refusal.
 pub fn print<'a>(planned: &[u32], buf: &'a mut [u8]) -> &'a mut [u8]
     ensures { λ r. ⌜ PrintFront (now (planned .entry)) (length (now (buf .entry))) (now r)
         × (r .ptr ≡ buf .entry .ptr) ⌝ }

@@ -9,7 +9,7 @@ use Rattle.tables.specs.Checks.{jobs-shape, job-rules}
 use Rattle.joblist.specs.declared.Listed.{Listed}
 use Rattle.joblist.specs.declared.Listed.the-variants.{WellFormed, Shape, AtFault}
 
--- job k keeps the rules by itself: "Row is below n, release 0 to 1,000,000, run 1 to C"
+-- job k keeps the rules by itself: its row is one of the table's, its release and its run are within their limits
 pub record KeepsAlone (tb : Table) (js : Jobs) (k : ℕ) : Type 0 where
   pub row : js .row k < tb .n
   pub soon : js .release k ≤ last-release

@@ -1,4 +1,4 @@
--- A set of rows as one number: document 01, "held as one 32-bit set; the rank being filled is the number of its marks".
+-- A set of rows as one number: document 01, "held as one 32-bit set". Row i is in it where digit i is 1.
 use Prim.Native.Nat.{ℕ, zero, suc, _/_, _%_, _<_}
 use mathlib.Core.Path.{_≡_}
 use mathlib.Core.Bool.{Bool, true, _||_}

@@ -9,7 +9,7 @@ use Rattle.responses.specs.inside.Asked.{Responses}
 use Rattle.choice.specs.Choice.{Chosen, Stopped}
 use Rattle.plan.specs.declared.filling.Filling.{Filling}
 
--- "Ranks are filled from n down to 1": 0 is said, each row's rank, length and response stand in its places, and the
+-- every rank is filled: 0 is said, each row's rank, length and response stand in its places, and the
 -- places past the rows hold 0
 pub record FilledAll (tb : Table) (f : Filling) : Type 0 where
   pub said : f .stopped ≡ 0
@@ -18,7 +18,7 @@ pub record FilledAll (tb : Table) (f : Filling) : Type 0 where
   pub past : (k : ℕ) → plan-width * tb .n ≤ k → getD (f .plan) k 0 ≡ 0
   pub whole : length (f .plan) ≡ plan-width * most-rows
 
--- "no row has a passing length" at the rank that is said, and every place holds 0
+-- no row fits at the rank that is said, and every place holds 0
 pub record StoppedAt (tb : Table) (f : Filling) : Type 0 where
   pub stop : Stopped tb
   pub said : f .stopped ≡ stop .rank

@@ -23,8 +23,7 @@ pub record Searchable (rows : List Row) (n unplaced tried b : ℕ) : Type 0 wher
   pub busy : BusyWithin (tableIn rows n)
   pub room : (t : ℕ) → 1 ≤ t → b + load before (tableIn rows n) (marked unplaced) t ≤ busy-side (tableIn rows n) t
 
--- "The row with the least shortest length takes the rank with that length", and R is its response there; or "no row has
--- a passing length"
+-- the row that takes the rank and its length there, and R is its response; or no row fits at all
 abbrev pub Picked : Table → (ℕ → Bool) → ℕ → (ℕ → Bool) → Pick → Type 0
 Picked tb U b tried (Taken y q R) = Takes tb U b tried y q × Response tb (without U y) b y q R
 Picked tb U b tried Nothing = NoneFits tb U b tried
