@@ -3,3 +3,4 @@ pub mod Demand2
 pub mod Demand3
 pub mod Callers
 pub mod Versions
+pub mod Board
