@@ -4,8 +4,9 @@ use mathlib.Core.Path.{_≡_, refl, sym, ap, _∙_, subst}
 use mathlib.Core.Logic.{_⊎_, inl, inr, ⊎-elim}
 use mathlib.Core.List.{List, [], _∷_, _++_, append-assoc}
 use native.Mathlib.Omega.{arith}
+use native.Mathlib.Numerals.{add-one}
 use lib.ListN.{length, take, drop, length-append}
-use lib.Seq.{take-at, take-append-add}
+use lib.Seq.{take-append-seam, take-append-add}
 use Rattle.counting.proofs.Cases.{by-eq}
 use Rattle.decimal.specs.Decimal.{nought, digits, decimal}
 use Rattle.decimal.proofs.Decimal.{digits-zero, digits-last, digits-more, decimal-digits}
@@ -22,21 +23,17 @@ Ends end v (b ∷ s) w =
     ⊎ ((d : ℕ) × Digit b d × (1 ≤ 10 * v + d) × Ends end (10 * v + d) s w)
 
 module _ (end : ℕ) (other : end < nought) where
-  last : (v : ℕ) → 10 * (v / 10) + v % 10 ≡ v
-  last v = omega arith
-
   -- the digits of v in front
   onto : (k v w : ℕ) (t : List ℕ) → v ≤ k → Ends end v t w → Ends end 0 (digits v ++ t) w
-  onto zero v w t h e = let z : v ≡ 0 = omega arith in rw (z, digits-zero) (subst (λ (n : ℕ). Ends end n t w) z e)
+  onto zero v w t h e = let z : v ≡ 0 = omega arith in rw (z, digits-zero) (rw z at e)
   onto (suc k) v w t h e =
       by-eq v 0
-      (λ z. rw (z, digits-zero) (subst (λ (n : ℕ). Ends end n t w) z e))
+      (λ z. rw (z, digits-zero) (rw z at e))
       (λ z.
       let digit : Digit (nought + v % 10) (v % 10) = record { small = omega arith; byte = refl } in
-      let r =
-      onto k (v / 10) w ((nought + v % 10) ∷ t) (omega arith)
-      (inr (v % 10, digit, omega arith, subst (λ (n : ℕ). Ends end n t w) (sym (last v)) e)) in
-      rw (digits-last v (omega arith), append-assoc) r)
+      let last : 10 * (v / 10) + v % 10 ≡ v = omega arith in
+      rw (digits-last v (omega arith), append-assoc)
+      (onto k (v / 10) w ((nought + v % 10) ∷ t) (omega arith) (inr (v % 10, digit, omega arith, rw last e))))
 
   -- and taken off again
   off : (k v w : ℕ) (t : List ℕ) → v ≤ k → Ends end 0 (digits v ++ t) w → Ends end v t w
@@ -45,19 +42,14 @@ module _ (end : ℕ) (other : end < nought) where
       by-eq v 0
       (λ z. rw z (rw (z, digits-zero) at e))
       (λ z.
-      let r = off k (v / 10) w ((nought + v % 10) ∷ t) (omega arith)
-      (rw (digits-last v (omega arith), append-assoc) at e) in
       ⊎-elim
-      (λ a. absurd (let b = a .0 in omega arith))
-      (λ a.
-      let same : 10 * (v / 10) + a .0 ≡ v = (let b = a .1 .byte in omega arith) in
-      subst (λ (n : ℕ). Ends end n t w) same (a .3))
-      r)
+      (λ a. absurd (omega arith))
+      (λ a. let same : 10 * (v / 10) + a .0 ≡ v = omega arith in rw same at (a .3))
+      (off k (v / 10) w ((nought + v % 10) ∷ t) (omega arith) (rw (digits-last v (omega arith), append-assoc) at e)))
 
   grows : (s : List ℕ) (v w : ℕ) → Ends end v s w → v ≤ w
   grows [] v w e = absurd e
-  grows (b ∷ s) v w e = ⊎-elim (λ a. let q = a .1 in omega arith)
-      (λ a. let r = grows s (10 * v + a .0) w (a .3) in omega arith) e
+  grows (b ∷ s) v w e = ⊎-elim (λ a. omega arith) (λ a. omega (arith, grows s (10 * v + a .0) w (a .3))) e
 
   -- the text of a number
   number-ends : (w : ℕ) (y : List ℕ) → 1 ≤ w → Ends end 0 ((decimal w ++ end ∷ []) ++ y) w
@@ -71,39 +63,27 @@ module _ (end : ℕ) (other : end < nought) where
   pub zero-differs : (w : ℕ) (x y : List ℕ) → 1 ≤ w → decimal 0 ++ (end ∷ x) ≡ decimal w ++ (end ∷ y) → ⊥
   unfolding decimal
   zero-differs w x y h e =
-      let g : Ends end 0 (nought ∷ end ∷ x) w = rw (← e ∙ sym (append-assoc (decimal w) (end ∷ []) y))
-      at (number-ends w y h) in
-      ⊎-elim
-      (λ q. let b = q .0 in omega arith)
-      (λ q. let b = q .1 .byte in let l = q .2 in omega arith)
-      g
+      let g : Ends end 0 (nought ∷ end ∷ x) w = rw (append-assoc, ← e) at (number-ends w y h) in
+      ⊎-elim (λ q. omega arith) (λ q. omega arith) g
 
   pub code-number : (most : ℕ) → Code (numberPiece most end)
   code-number most a b ha hb x y e =
       let f : digits a ++ (end ∷ x) ≡ (decimal b ++ end ∷ []) ++ y =
-      ap (λ (l : List ℕ). l ++ (end ∷ x)) (sym (decimal-digits a (ha .low)))
-      ∙ sym (append-assoc (decimal a) (end ∷ []) x) ∙ e in
-      ⊎-elim (λ q. q .1) (λ q. absurd (let l = q .1 .byte in omega arith)) (next a b (end ∷ x) y (hb .low) f)
+      cc (decimal-digits a (ha .low), append-assoc (decimal a) (end ∷ []) x) in
+      ⊎-elim (λ q. q .1) (λ q. absurd (omega arith)) (next a b (end ∷ x) y (hb .low) f)
 
   module _ (most v : ℕ) (s t : List ℕ) (some : 1 ≤ most) (high : v ≤ most) (split : s ≡ digits v ++ t) where
     front : take (length (digits v)) s ≡ digits v
-    front = ap (take (length (digits v))) split ∙ take-at (digits v) t (length (digits v)) refl
+    front = rw (split, take-append-seam)
 
     begun : (w : ℕ) × Between most w × Begins (take (length (digits v)) s) (decimal w ++ end ∷ [])
     begun =
         by-eq v 0
-        (λ z. (
-          1,
-          record { low = omega arith; high = some },
-          (
-            decimal 1 ++ end ∷ [],
-            ap (λ (l : List ℕ). l ++ (decimal 1 ++ end ∷ [])) (front ∙ ap digits z ∙ digits-zero),
-          ),
-        ))
+        (λ z. (1, record { low = omega arith; high = some }, (decimal 1 ++ end ∷ [], rw (front, z, digits-zero))))
         (λ z. (
           v,
           record { low = omega arith; high = high },
-          (end ∷ [], ap (λ (l : List ℕ). l ++ end ∷ []) (front ∙ sym (decimal-digits v (omega arith)))),
+          (end ∷ [], rw (front, decimal-digits v (omega arith))),
         ))
 
     -- the text ends behind the digits of v
@@ -127,27 +107,18 @@ module _ (end : ℕ) (other : end < nought) where
         let n = length (digits v) in
         let long = ap length split ∙ length-append (digits v) t in
         let more = ap length e in
-        let here : take (suc n) s ≡ digits v ++ b ∷ [] =
-        ap (λ (m : ℕ). take m s) (let q : suc n ≡ n + 1 = omega arith in q)
-        ∙ ap (take (n + 1)) split
-        ∙ take-append-add (digits v) t 1
-        ∙ ap (λ (l : List ℕ). digits v ++ take 1 l) e in
+        let here : take (suc n) s ≡ digits v ++ b ∷ [] = rw (← add-one, split, take-append-add, e) in
         let wrong : (w : ℕ) (z y : List ℕ) → Between most w → digits v ++ (b ∷ z) ≡ (decimal w ++ end ∷ []) ++ y → ⊥ =
         λ w z y hw g.
         ⊎-elim
-        (λ q. let l = hw .low in let o = q .1 in let p = no-end (q .0) in omega arith)
-        (λ q. no-digit (q .0) (q .1) (record {
-          low = q .2;
-          high = let m = grows z (10 * v + q .0) w (q .3) in let l = hw .high in omega arith;
-        }))
+        (λ q. omega (arith, no-end (q .0)))
+        (λ q. no-digit (q .0) (q .1) (record { low = q .2; high = omega (arith, grows z (10 * v + q .0) w (q .3)) }))
         (next v w (b ∷ z) y (hw .low) g) in
         record {
           within = omega arith;
           begun = begun;
-          no-more = λ l w hw y g.
-              wrong w (g .0) y hw (sym (append-assoc (digits v) (b ∷ []) (g .0))
-              ∙ ap (λ (k : List ℕ). k ++ g .0) (sym here) ∙ g .1);
-          no-text = λ w hw y g. wrong w u y hw (ap (λ (k : List ℕ). digits v ++ k) (sym e) ∙ sym split ∙ g);
+          no-more = λ l w hw y g. wrong w (g .0) y hw (cc (append-assoc (digits v) (b ∷ []) (g .0)));
+          no-text = λ w hw y g. wrong w u y hw (cc);
         }
 
 -- the digits of v and the byte end behind them
@@ -159,36 +130,26 @@ number-passed most end v s at next low high within behind split =
       allowed = record { low = low; high = high };
       within = within;
       behind = let e = ap length (decimal-digits v low) in omega (arith, length-append (decimal v) (end ∷ []));
-      split =
-          split
-          ∙ ap (λ (l : List ℕ). l ++ (end ∷ drop next s)) (sym (decimal-digits v low))
-          ∙ sym (append-assoc (decimal v) (end ∷ []) (drop next s));
+      split = cc (decimal-digits v low, append-assoc (decimal v) (end ∷ []) (drop next s));
     }
 
 -- one digit more
 pub number-grows : (v b r d : ℕ) (s u : List ℕ) → 1 ≤ r → Digit b d → r ≡ 10 * v + d → s ≡ digits v ++ (b ∷ u)
     → (s ≡ digits r ++ u) × (length (digits r) ≡ length (digits v) + 1)
 number-grows v b r d s u low digit more e =
-    let small = digit .small in
     let f : digits r ≡ digits v ++ b ∷ [] =
-    ap digits more
-    ∙ digits-more v d (omega arith) (omega arith)
-    ∙ ap (λ (n : ℕ). digits v ++ n ∷ []) (sym (digit .byte)) in (
-      e ∙ sym (append-assoc (digits v) (b ∷ []) u) ∙ ap (λ (k : List ℕ). k ++ u) (sym f),
-      ap length f ∙ length-append (digits v) (b ∷ []),
-    )
+    rw (more, digit .byte) (digits-more v d (omega arith) (omega arith)) in
+    (cc (append-assoc (digits v) (b ∷ []) u), rw (f, length-append))
 
 -- a decimal text with a byte behind it that is no digit tells the number, 0 among them
 pub decimal-tells : (end : ℕ) → end < nought → (v w : ℕ) (x y : List ℕ) →
     decimal v ++ (end ∷ x) ≡ decimal w ++ (end ∷ y) → v ≡ w
 decimal-tells end other v w x y e =
     by-eq v 0
-    (λ p. by-eq w 0 (λ q. p ∙ sym q) (λ q. absurd
-    (zero-differs end other w x y (omega arith) (ap (λ (n : ℕ). decimal n ++ (end ∷ x)) (sym p) ∙ e))))
+    (λ p. by-eq w 0 (λ q. p ∙ sym q) (λ q. absurd (zero-differs end other w x y (omega arith) (rw p at e))))
     (λ p.
     by-eq w 0
-    (λ q. absurd (zero-differs end other v y x (omega arith) (ap (λ (n : ℕ). decimal n ++ (end ∷ y)) (sym q) ∙ sym e)))
+    (λ q. absurd (zero-differs end other v y x (omega arith) (rw q at (sym e))))
     (λ q.
     code-number end other (v + w) v w (record { low = omega arith; high = omega arith })
-    (record { low = omega arith; high = omega arith }) x y
-    (append-assoc (decimal v) (end ∷ []) x ∙ e ∙ sym (append-assoc (decimal w) (end ∷ []) y))))
+    (record { low = omega arith; high = omega arith }) x y (simp append-assoc e)))

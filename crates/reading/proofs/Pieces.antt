@@ -1,20 +1,31 @@
 -- Laws of pieces of text: a piece behind another, and one piece for another with the same texts.
-use Prim.Native.Nat.{ℕ, suc, _+_}
+use Prim.Native.Nat.{ℕ, suc, _+_, _≤_}
 use mathlib.Core.Path.{_≡_, refl, sym, ap, _∙_}
 use mathlib.Core.List.{List, [], _∷_, _++_, append-assoc}
 use native.Mathlib.Omega.{arith}
 use native.Mathlib.Nat.{add-suc}
-use lib.ListN.{length, take, drop, length-append}
-use lib.Seq.{take-append-add}
+use lib.ListN.{length, take, drop, length-append, take-append-drop}
+use lib.Seq.{take-append-add, take-take}
+use Rattle.reading.specs.Begins.{Begins}
 use Rattle.reading.specs.inside.Piece.{Piece, wordPiece, both, Stops, Passed, Stuck}
 
 -- what stands behind the same beginning is the same
 pub cancel : (p : List ℕ) {x y : List ℕ} → p ++ x ≡ p ++ y → x ≡ y
 cancel [] e = e
-cancel (a ∷ p) {x} {y} e = cancel p (tail e)
-  where
-    tail : a ∷ (p ++ x) ≡ a ∷ (p ++ y) → p ++ x ≡ p ++ y
-    tail h = cc
+cancel (a ∷ p) {x} {y} e = cancel p (let tail : p ++ x ≡ p ++ y = cc in tail)
+
+-- what begins with more of s begins with less of it
+pub begins-less : (s : List ℕ) {t : List ℕ} (p q : ℕ) → p ≤ q → Begins (take q s) t → Begins (take p s) t
+begins-less s p q h b =
+    (drop p (take q s) ++ b .0, rw (← take-take p q s h, ← append-assoc, take-append-drop) (b .1))
+
+-- what a text begins with, the text with more behind it begins with
+pub begins-on : (p : List ℕ) {t : List ℕ} (u : List ℕ) → Begins p t → Begins p (t ++ u)
+begins-on p u b = (b .0 ++ u, cc (append-assoc p (b .0) u))
+
+-- and with the same in front of both
+pub begins-behind : (a p : List ℕ) {t : List ℕ} → Begins p t → Begins (a ++ p) (a ++ t)
+begins-behind a p b = (b .0, cc (append-assoc a p (b .0)))
 
 -- a text of the piece, whatever follows it, tells its value
 abbrev pub Code : Piece → Type 0
@@ -27,7 +38,7 @@ code-word w a b ha hb x y e = refl
 pub code-rest : (P : Piece) → Code P → (a b : P .Value) → P .Allowed a → P .Allowed b → (x y : List ℕ) →
     P .text a ++ x ≡ P .text b ++ y → x ≡ y
 code-rest P code a b ha hb x y e =
-    let q = ap (P .text) (code a b ha hb x y e) in cancel (P .text b) (ap (λ (t : List ℕ). t ++ x) (sym q) ∙ e)
+    let q = code a b ha hb x y e in cancel (P .text b) (rw q at e)
 
 module _ (P Q : Piece) where
   behind : (a : P .Value) (b : Q .Value) (y : List ℕ) → both P Q .text (a, b) ++ y ≡ P .text a ++ (Q .text b ++ y)
@@ -45,15 +56,7 @@ module _ (P Q : Piece) where
   both-first {s} {p} h b hb =
       record {
         within = h .within;
-        begun = (
-          (h .begun .0, b),
-          (h .begun .1, hb),
-          (
-            h .begun .2 .0 ++ Q .text b,
-            sym (append-assoc (take p s) (h .begun .2 .0) (Q .text b)) ∙ ap (λ (t : List ℕ). t ++ Q .text b)
-                (h .begun .2 .1),
-          ),
-        );
+        begun = ((h .begun .0, b), (h .begun .1, hb), begins-on (take p s) (Q .text b) (h .begun .2));
         no-more = λ l v hv y g. h .no-more l (v .0) (hv .0) (Q .text (v .1) ++ y) (g .0, g .1 ∙ behind (v .0) (v .1) y);
         no-text = λ v hv y e. h .no-text (v .0) (hv .0) (Q .text (v .1) ++ y) (e ∙ behind (v .0) (v .1) y);
       }
@@ -68,24 +71,12 @@ module _ (P Q : Piece) where
       λ m. ap (take (n + m)) e ∙ take-append-add (P .text a) t m in
       record {
         within = let w = h .within in omega arith;
-        begun = (
-          (a, h .begun .0),
-          (ha, h .begun .1),
-          (
-            h .begun .2 .0,
-            ap (λ (l : List ℕ). l ++ h .begun .2 .0) (front p)
-                ∙ append-assoc (P .text a) (take p t) (h .begun .2 .0)
-                ∙ ap (λ (l : List ℕ). P .text a ++ l) (h .begun .2 .1),
-          ),
-        );
+        begun = ((a, h .begun .0), (ha, h .begun .1), rw (front p) (begins-behind (P .text a) (take p t) (h .begun .2)));
         no-more = λ l v hv y g.
             h .no-more (omega arith) (v .1) (hv .1) y (
               g .0,
               code-rest P code a (v .0) ha (hv .0) (take (suc p) t ++ g .0) (Q .text (v .1) ++ y)
-                  (sym (append-assoc (P .text a) (take (suc p) t) (g .0))
-                  ∙ ap (λ (l : List ℕ). l ++ g .0) (sym (front (suc p)) ∙ ap (λ (m : ℕ). take m s) (add-suc n p))
-                  ∙ g .1
-                  ∙ behind (v .0) (v .1) y),
+                  (rw (← append-assoc, ← front (suc p), add-suc n p) (g .1) ∙ behind (v .0) (v .1) y),
             );
         no-text = λ v hv y g.
             h .no-text (v .1) (hv .1) y
@@ -129,16 +120,10 @@ module _ {P Q : Piece} (e : Alike P Q) where
   alike-stops {s} {p} h =
       record {
         within = h .within;
-        begun = (
-          e .to (h .begun .0),
-          e .allowed-to (h .begun .0) (h .begun .1),
-          (h .begun .2 .0, h .begun .2 .1 ∙ e .text-to (h .begun .0)),
-        );
-        no-more = λ l w hw y g.
-            h .no-more l (e .back w) (e .allowed-back w hw) y
-            (g .0, g .1 ∙ ap (λ (t : List ℕ). t ++ y) (sym (e .text-back w)));
-        no-text = λ w hw y g. h .no-text (e .back w) (e .allowed-back w hw) y
-            (g ∙ ap (λ (t : List ℕ). t ++ y) (sym (e .text-back w)));
+        begun =
+            let v = h .begun .0 in (e .to v, e .allowed-to v (h .begun .1), rw (← e .text-to v) (h .begun .2));
+        no-more = λ l w hw y g. h .no-more l (e .back w) (e .allowed-back w hw) y (rw (e .text-back w) g);
+        no-text = λ w hw y g. h .no-text (e .back w) (e .allowed-back w hw) y (rw (e .text-back w) g);
       }
 
   pub alike-stuck : {s : List ℕ} {at place : ℕ} → Stuck P s at place → Stuck Q s at place
@@ -149,12 +134,11 @@ module _ {P Q : Piece} (e : Alike P Q) where
       record {
         allowed = e .allowed-to v (f .allowed);
         within = f .within;
-        behind = f .behind ∙ ap (λ (t : List ℕ). at + length t) (e .text-to v);
-        split = f .split ∙ ap (λ (t : List ℕ). t ++ drop n s) (e .text-to v);
+        behind = rw (← e .text-to v) (f .behind);
+        split = rw (← e .text-to v) (f .split);
       }
 
   pub alike-code : ((v w : Q .Value) → e .back v ≡ e .back w → v ≡ w) → Code P → Code Q
   alike-code one code a b ha hb x y h =
-      one a b
-      (code (e .back a) (e .back b) (e .allowed-back a ha) (e .allowed-back b hb) x y
-      (ap (λ (t : List ℕ). t ++ x) (e .text-back a) ∙ h ∙ ap (λ (t : List ℕ). t ++ y) (sym (e .text-back b))))
+      one a b (code (e .back a) (e .back b) (e .allowed-back a ha) (e .allowed-back b hb) x y
+      (rw (e .text-back a, e .text-back b) h))

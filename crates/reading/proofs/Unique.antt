@@ -3,8 +3,7 @@ use Prim.Native.Nat.{ℕ, suc, _+_, _≤_, _<_}
 use mathlib.Core.Path.{_≡_, sym, ap, _∙_}
 use mathlib.Core.List.{List, [], _++_, append-assoc, append-nil}
 use native.Mathlib.Omega.{arith}
-use lib.ListN.{length, take, drop, take-append-drop}
-use lib.Seq.{take-take}
+use lib.ListN.{drop}
 use Rattle.counting.proofs.Cases.{by-le}
 use Rattle.decimal.specs.Decimal.{nought}
 use Rattle.reading.specs.inside.Piece.{Piece, wordPiece, numberPiece, Stops, Passed, Stuck}
@@ -13,7 +12,7 @@ use Rattle.reading.specs.declared.WordRead.{WordRead}
 use Rattle.reading.specs.declared.WordRead.the-variants as word
 use Rattle.reading.specs.declared.NumberRead.{NumberRead}
 use Rattle.reading.specs.declared.NumberRead.the-variants as number
-use Rattle.reading.proofs.Pieces.{Code, code-word}
+use Rattle.reading.proofs.Pieces.{begins-less, Code, code-word}
 use Rattle.reading.proofs.Numbers.{code-number}
 
 module _ (P : Piece) where
@@ -23,36 +22,28 @@ module _ (P : Piece) where
       by-le q p (λ h. h)
       (λ h.
       let g = b .begun in
-      let w = b .within in
-      let t = P .text (g .0) in
-      let more = drop (suc p) (take q s) in
-      absurd (a .no-more (omega arith) (g .0) (g .1) [] (
-        more ++ g .2 .0,
-        ap (λ (l : List ℕ). l ++ (more ++ g .2 .0)) (sym (take-take (suc p) q s h))
-            ∙ sym (append-assoc (take (suc p) (take q s)) more (g .2 .0))
-            ∙ ap (λ (l : List ℕ). l ++ g .2 .0) (take-append-drop (suc p) (take q s))
-            ∙ g .2 .1
-            ∙ sym (append-nil t),
-      )))
+      absurd (a .no-more (omega arith) (g .0) (g .1) [] (rw append-nil (begins-less s (suc p) q h (g .2)))))
 
   stuck-unique : {s : List ℕ} {at p q : ℕ} → Stuck P s at p → Stuck P s at q → p ≡ q
   stuck-unique a b =
-      omega (arith, a .reached, b .reached, stops-late (a .stops) (b .stops), stops-late (b .stops) (a .stops))
+      omega (arith, stops-late (a .stops) (b .stops), stops-late (b .stops) (a .stops))
 
-  passed-or-stuck : {s : List ℕ} {at next place : ℕ} {v : P .Value} → Passed P s at v next → Stuck P s at place → ⊥
-  passed-or-stuck {s} {at} {next} {place} {v} a b = b .stops .no-text v (a .allowed) (drop next s) (a .split)
+  passed-or-stuck : {X : Type 0} {s : List ℕ} {at next place : ℕ} {v : P .Value} →
+      Passed P s at v next → Stuck P s at place → X
+  passed-or-stuck {s = s} {next = next} {v = v} a b =
+      absurd (b .stops .no-text v (a .allowed) (drop next s) (a .split))
 
   passed-unique : Code P → {s : List ℕ} {at m n : ℕ} {v w : P .Value} → Passed P s at v m → Passed P s at w n →
       (v ≡ w) × (m ≡ n)
   passed-unique code {s} {at} {m} {n} {v} {w} a b =
       let e = code v w (a .allowed) (b .allowed) (drop m s) (drop n s) (sym (a .split) ∙ b .split) in
-      (e, a .behind ∙ ap (λ (u : P .Value). at + length (P .text u)) e ∙ sym (b .behind))
+      (e, cc)
 
 pub word-unique : (w s : List ℕ) (at : ℕ) (a b : WordRead) → ReadsWord w s at a → ReadsWord w s at b → a ≡ b
-word-unique w s at (word.Past m) (word.Past n) p q = ap (λ (k : ℕ). word.Past (record { at = k }))
-    (passed-unique (wordPiece w) (code-word w) p q .1)
-word-unique w s at (word.Past m) (word.Stuck place) p q = absurd (passed-or-stuck (wordPiece w) p q)
-word-unique w s at (word.Stuck place) (word.Past n) p q = absurd (passed-or-stuck (wordPiece w) q p)
+word-unique w s at (word.Past m) (word.Past n) p q =
+    let e = passed-unique (wordPiece w) (code-word w) p q .1 in λ i. word.Past (record { at = e i })
+word-unique w s at (word.Past m) (word.Stuck place) p q = passed-or-stuck (wordPiece w) p q
+word-unique w s at (word.Stuck place) (word.Past n) p q = passed-or-stuck (wordPiece w) q p
 word-unique w s at (word.Stuck a) (word.Stuck b) p q = ap word.Stuck (stuck-unique (wordPiece w) p q)
 
 pub number-unique : (most end : ℕ) → end < nought → (s : List ℕ) (at : ℕ) (a b : NumberRead) →
@@ -60,9 +51,7 @@ pub number-unique : (most end : ℕ) → end < nought → (s : List ℕ) (at : �
 number-unique most end other s at (number.Past v m) (number.Past w n) p q =
     let e = passed-unique (numberPiece most end) (code-number end other most) p q in
     λ i. number.Past (e .0 i) (record { at = e .1 i })
-number-unique most end other s at (number.Past v m) (number.Stuck place) p q =
-    absurd (passed-or-stuck (numberPiece most end) p q)
-number-unique most end other s at (number.Stuck place) (number.Past w n) p q =
-    absurd (passed-or-stuck (numberPiece most end) q p)
+number-unique most end other s at (number.Past v m) (number.Stuck _) p q = passed-or-stuck (numberPiece most end) p q
+number-unique most end other s at (number.Stuck _) (number.Past w n) p q = passed-or-stuck (numberPiece most end) q p
 number-unique most end other s at (number.Stuck a) (number.Stuck b) p q =
     ap number.Stuck (stuck-unique (numberPiece most end) p q)

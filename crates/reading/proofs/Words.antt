@@ -5,17 +5,21 @@ use mathlib.Core.List.{List, _++_}
 use native.Mathlib.Omega.{arith}
 use lib.ListN.{length, getD, take, drop, length-append, take-append-drop, List·getD-append}
 use lib.Seq.{getD-take, length-take-le, drop-drop, take-length}
+use Rattle.reading.specs.Begins.{Begins}
 use Rattle.reading.specs.inside.Piece.{wordPiece, Stops, Passed}
 
 module _ (w s : List ℕ) (i : ℕ) (same : take i s ≡ take i w) where
+  begun : Begins (take i s) w
+  begun = (drop i w, rw (same, take-append-drop))
+
   -- the text ends within the word
   pub word-ends : i ≡ length s → i < length w → Stops (wordPiece w) s i
   word-ends e h =
       record {
         within = omega arith;
-        begun = (tt, tt, (drop i w, ap (λ (l : List ℕ). l ++ drop i w) same ∙ take-append-drop i w));
+        begun = (tt, tt, begun);
         no-more = λ l v hv y g. omega arith;
-        no-text = λ v hv y g. let k = ap length g ∙ length-append w y in omega arith;
+        no-text = λ v hv y g. omega (arith, simp length-append at (ap length g));
       }
 
   -- another byte than the word's
@@ -23,14 +27,12 @@ module _ (w s : List ℕ) (i : ℕ) (same : take i s ≡ take i w) where
   word-differs l h d =
       record {
         within = omega arith;
-        begun = (tt, tt, (drop i w, ap (λ (k : List ℕ). k ++ drop i w) same ∙ take-append-drop i w));
+        begun = (tt, tt, begun);
         no-more = λ _ v hv y g.
-            d
-            (sym (getD-take (suc i) s i 0 (omega arith))
-            ∙ sym (List·getD-append (take (suc i) s) (g .0) 0 i (omega (arith, length-take-le (suc i) s l)))
-            ∙ ap (λ (k : List ℕ). getD k i 0) (g .1)
-            ∙ List·getD-append w y 0 i h);
-        no-text = λ v hv y g. d (ap (λ (k : List ℕ). getD k i 0) g ∙ List·getD-append w y 0 i h);
+            let long : i < length (take (suc i) s) = omega (arith, length-take-le (suc i) s l) in
+            let next : i < suc i = omega arith in
+            d (rw (List·getD-append, getD-take, List·getD-append) at (ap (λ (k : List ℕ). getD k i 0) (g .1)));
+        no-text = λ v hv y g. d (rw List·getD-append at (ap (λ (k : List ℕ). getD k i 0) g));
       }
 
 -- the whole word
@@ -41,8 +43,5 @@ word-passed w s at fits same =
       allowed = tt;
       within = fits;
       behind = refl;
-      split =
-          sym (take-append-drop (length w) (drop at s))
-          ∙ ap (λ (l : List ℕ). l ++ drop (length w) (drop at s)) (same ∙ take-length w)
-          ∙ ap (λ (l : List ℕ). w ++ l) (drop-drop (length w) at s);
+      split = rw (same, take-length, drop-drop) at (sym (take-append-drop (length w) (drop at s)));
     }

@@ -1,12 +1,11 @@
 -- `plan_bytes` meets its contract. The loop's invariant: the bytes of the first line and of the rows passed.
-use lib.ListN.{length-append}
+use lib.ListN.{length-append, length}
 use Rattle.decimal.proofs.Decimal.{few}
 use Rattle.printing.specs.Printed.{planLine, rowLines}
 use Rattle.printing.proofs.Printed.{lineOf, length-planLine, rows-none, rows-more, length-text}
 use Prim.Native.Nat.{_≤_, _+_, _*_, _-_}
 use mathlib.Core.Path.{_≡_, sym, ap, _∙_}
 use native.Mathlib.Omega.{arith}
-use lib.ListN.{length}
 use borrow.Author.Needs.{needs}
 use Rattle.printing.proofs.plan_bytes.Statement.{statement}
 use Rattle.printing.proofs.plan_bytes.Tie as tie

@@ -1,7 +1,7 @@
 -- `print_into` meets its contract: where `fit` gives, the text is put, and what it refuses leaves the buffer as it was.
 use mathlib.Core.Logic.{inr}
 use mathlib.Core.List.{_++_}
-use lib.ListN.{drop}
+use lib.ListN.{drop, length}
 use Rattle.tables.specs.Refusal.{Clear}
 use Rattle.tables.specs.Answer.{placeOf, valueOf}
 use Rattle.tables.specs.Checks.{planned-shape}
@@ -11,7 +11,6 @@ use Rattle.printing.proofs.Answers.{fit-given, print-refused}
 use Prim.Native.Nat.{ℕ, _≤_, _+_}
 use mathlib.Core.Path.{_≡_, sym, ap, _∙_}
 use native.Mathlib.Omega.{arith}
-use lib.ListN.{length}
 use borrow.Author.Needs.{needs}
 use Rattle.printing.proofs.print_into.Statement.{statement}
 use Rattle.printing.proofs.print_into.Tie as tie

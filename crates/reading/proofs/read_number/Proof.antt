@@ -1,8 +1,8 @@
 -- `read_number` meets its contract. The loop's invariant: the digits of v have been read, and v is at most the largest.
-use mathlib.Core.Path.{subst}
+use mathlib.Core.Path.{subst, _≡_, refl, sym, ap, _∙_}
 use mathlib.Core.List.{List, _∷_, _++_}
 use native.Mathlib.Numerals.{add-one}
-use lib.ListN.{drop, drop-of-length-le}
+use lib.ListN.{drop, drop-of-length-le, length, getD}
 use lib.Seq.{drop-cons}
 use Rattle.decimal.specs.Decimal.{digits}
 use Rattle.decimal.proofs.Decimal.{digits-zero}
@@ -10,9 +10,7 @@ use Rattle.reading.specs.inside.Piece.{numberPiece, Stuck}
 use Rattle.reading.specs.inside.Read.{Grows}
 use Rattle.reading.proofs.Numbers.{number-cut, number-stops, number-passed, number-grows}
 use Prim.Native.Nat.{ℕ, _≤_, _+_, _-_}
-use mathlib.Core.Path.{_≡_, refl, sym, ap, _∙_}
 use native.Mathlib.Omega.{arith}
-use lib.ListN.{length, getD}
 use borrow.Author.Needs.{needs}
 use Rattle.reading.proofs.read_number.Statement.{statement}
 use Rattle.reading.proofs.read_number.Tie as tie

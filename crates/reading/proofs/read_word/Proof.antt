@@ -1,13 +1,12 @@
 -- `read_word` meets its contract. The loop's invariant: the bytes passed are those of the word.
 use mathlib.Core.List.{List, [], _∷_, _++_}
 use native.Mathlib.Numerals.{add-one}
-use lib.ListN.{take, drop, length-drop}
+use lib.ListN.{take, drop, length-drop, length, getD}
 use lib.Seq.{take-suc, getD-drop}
 use Rattle.reading.proofs.Words.{word-ends, word-differs, word-passed}
 use Prim.Native.Nat.{ℕ, _≤_, _+_, _-_}
 use mathlib.Core.Path.{_≡_, refl, sym, ap, _∙_}
 use native.Mathlib.Omega.{arith}
-use lib.ListN.{length, getD}
 use borrow.Author.Needs.{needs}
 use Rattle.reading.proofs.read_word.Statement.{statement}
 use Rattle.reading.proofs.read_word.Tie as tie

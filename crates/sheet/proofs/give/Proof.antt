@@ -1,10 +1,9 @@
 -- `give` meets its contract: the check of the table, the room, the numbers.
-use mathlib.Core.Path.{subst}
+use mathlib.Core.Path.{subst, refl}
 use mathlib.Core.Logic.{inl, inr}
 use Rattle.tables.specs.Refusal.{Clear}
 use Rattle.tables.specs.Checks.{range}
 use Rattle.tables.specs.inside.Checked.{TableChecked}
-use mathlib.Core.Path.{refl}
 use native.Mathlib.Omega.{arith}
 use borrow.Author.Needs.{needs}
 use Rattle.sheet.proofs.give.Statement.{statement}

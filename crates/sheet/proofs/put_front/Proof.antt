@@ -1,12 +1,11 @@
 -- `put_front` meets its contract. The loop's invariant: the numbers passed stand at the front.
 use mathlib.Core.List.{List}
 use native.Mathlib.Numerals.{add-one}
-use lib.ListN.{set, length-set}
+use lib.ListN.{set, length-set, length, getD}
 use lib.Seq.{paste, paste-zero, paste-suc, take-length}
 use Prim.Native.Nat.{ℕ, _≤_, _+_, _-_}
 use mathlib.Core.Path.{_≡_, refl, sym, ap, _∙_}
 use native.Mathlib.Omega.{arith}
-use lib.ListN.{length, getD}
 use borrow.Author.Needs.{needs}
 use Rattle.sheet.proofs.put_front.Statement.{statement}
 use Rattle.sheet.proofs.put_front.Tie as tie

@@ -1,8 +1,8 @@
 -- `read_tasks` meets its contract. The loop's invariant: n tasks have been read and their rows stand at the front of
 -- the table, and behind one of them the text goes on.
-use mathlib.Core.Path.{subst}
+use mathlib.Core.Path.{subst, _≡_, refl, ap, _∙_}
 use mathlib.Core.List.{[], _∷_, _++_}
-use lib.ListN.{drop, length-append, length-drop}
+use lib.ListN.{drop, length-append, length-drop, length}
 use lib.Seq.{length-take-le}
 use borrow.Rule.Slice.PartMut.{putMid, same-len-mid}
 use Rattle.counting.proofs.Cases.{by-le}
@@ -13,9 +13,7 @@ use Rattle.sheet.specs.inside.Read.{taskPiece, taskOf, ReadsTask, Filled
 use Rattle.sheet.proofs.Fronts.{front-more, front-stuck, front-full}
 use Rattle.sheet.proofs.Ticks.{row-more}
 use Prim.Native.Nat.{ℕ, _≤_, _<_, _+_, _*_, _-_}
-use mathlib.Core.Path.{_≡_, refl, ap, _∙_}
 use native.Mathlib.Omega.{arith}
-use lib.ListN.{length}
 use borrow.Author.Needs.{needs}
 use Rattle.sheet.proofs.read_tasks.Statement.{statement}
 use Rattle.sheet.proofs.read_tasks.Tie as tie

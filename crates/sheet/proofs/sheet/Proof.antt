@@ -1,5 +1,5 @@
 -- `sheet` meets its contract: the text is read into a table of its own, and the table's front is given.
-use mathlib.Core.Path.{subst}
+use mathlib.Core.Path.{subst, _≡_, refl, sym}
 use mathlib.Core.Logic.{inl, inr}
 use lib.ListN.{take, drop, replicate}
 use lib.Seq.{length-take-le}
@@ -10,7 +10,6 @@ use Rattle.sheet.specs.declared.SheetRead.the-variants as whole
 use Rattle.sheet.proofs.Fronts.{place-bound}
 use Rattle.sheet.proofs.Answers.{ticks-rows, ticks-front}
 use Prim.Native.Nat.{_≤_, _*_}
-use mathlib.Core.Path.{_≡_, refl, sym}
 use native.Mathlib.Omega.{arith}
 use borrow.Author.Needs.{needs}
 use Rattle.sheet.proofs.sheet.Statement.{statement}
