@@ -31,7 +31,7 @@ module _ (w s : List ℕ) (i : ℕ) (same : take i s ≡ take i w) where
         no-more = λ _ v hv y g.
             let long : i < length (take (suc i) s) = omega (arith, length-take-le (suc i) s l) in
             let next : i < suc i = omega arith in
-            d (rw (List·getD-append, getD-take, List·getD-append) at (ap (λ (k : List ℕ). getD k i 0) (g .1)));
+            d (simp (List·getD-append, getD-take) at (ap (λ (k : List ℕ). getD k i 0) (g .1)));
         no-text = λ v hv y g. d (rw List·getD-append at (ap (λ (k : List ℕ). getD k i 0) g));
       }
 

@@ -4,7 +4,7 @@ use native.Mathlib.Numerals.{add-one}
 use lib.ListN.{take, drop, length-drop, length, getD}
 use lib.Seq.{take-suc, getD-drop}
 use Rattle.reading.proofs.Words.{word-ends, word-differs, word-passed}
-use Prim.Native.Nat.{ℕ, _≤_, _+_, _-_}
+use Prim.Native.Nat.{ℕ, _≤_, _<_, _+_, _-_}
 use mathlib.Core.Path.{_≡_, refl, sym, ap, _∙_}
 use native.Mathlib.Omega.{arith}
 use borrow.Author.Needs.{needs}
@@ -21,58 +21,43 @@ abbrev μ-loop : tie.MeasureT-loop
 loop-holds : tie.Need-loop-holds Inv-loop μ-loop
 loop-holds c = (search needs, let p = c .pre in omega arith, refl)
 
+-- the word, and the text from the start on
+module _ (h : tie.At-loop Inv-loop μ-loop) where
+  abbrev word : List ℕ
+  word = h .before .args .word .now
+
+  abbrev rest : List ℕ
+  rest = drop (h .before .args .from .at) (h .before .args .text .now)
+
 returns : tie.Need-returns Inv-loop μ-loop
 returns c =
-    let s = c .before .before .before in
-    let l = c .before .before .loop in
-    record {
-      ahead = l .i;
-      reached = refl;
-      stops =
-          word-ends (s .args .word .now) (drop (s .args .from .at) (s .args .text .now)) (l .i) (l .inv .2)
-          (omega (arith, length-drop (s .args .from .at) (s .args .text .now)))
-          (c .before .loop-test .taken);
-    }
+    let h = c .before .before in
+    let ends = word-ends (word h) (rest h) (h .loop .i) (h .loop .inv .2) (simp length-drop (omega arith)) in
+    record { ahead = h .loop .i; reached = refl; stops = ends (omega arith) }
 
 returns-2 : tie.Need-returns-2 Inv-loop μ-loop
 returns-2 c =
-    let s = c .before .before .before .before .before .before in
-    let l = c .before .before .before .before .before .loop in
-    let text = s .args .text .now in
-    record {
-      ahead = l .i;
-      reached = refl;
-      stops =
-          word-differs (s .args .word .now) (drop (s .args .from .at) text) (l .i) (l .inv .2)
-          (omega (arith, length-drop (s .args .from .at) text))
-          (c .before .before .before .before .loop-test .taken)
-          (λ e. c .if2 .taken (sym (getD-drop (s .args .from .at) text (l .i) 0) ∙ e));
-    }
+    let h = c .before .before .before .before .before in
+    let differs = word-differs (word h) (rest h) (h .loop .i) (h .loop .inv .2) (simp length-drop (omega arith)) in
+    record { ahead = h .loop .i; reached = refl; stops = differs (omega arith) (λ e. c .if2 .taken (rw getD-drop at e)) }
 
 loop-again : tie.Need-loop-again Inv-loop μ-loop
 loop-again c =
-    let s = c .before .before .before .before .before .before in
-    let l = c .before .before .before .before .before .loop in
-    let text = s .args .text .now in
-    let word = s .args .word .now in
-    let rest = drop (s .args .from .at) text in
-    let e : getD rest (l .i) 0 ≡ getD word (l .i) 0 = getD-drop (s .args .from .at) text (l .i) 0 ∙ c .if2 .left in (
+    let h = c .before .before .before .before .before in
+    let more : h .loop .i < length (rest h) = simp length-drop (omega arith) in
+    let taken : h .loop .i < length (word h) = omega arith in
+    let same : getD (rest h) (h .loop .i) 0 ≡ getD (word h) (h .loop .i) 0 = rw getD-drop (c .if2 .left) in (
       omega arith,
       omega arith,
-      rw add-one
-          (take-suc rest (l .i) 0 (omega (arith, length-drop (s .args .from .at) text))
-          ∙ ap (λ (k : List ℕ). k ++ getD rest (l .i) 0 ∷ []) (l .inv .2)
-          ∙ ap (λ (b : ℕ). take (l .i) word ++ b ∷ []) e
-          ∙ sym (take-suc word (l .i) 0 (c .before .before .before .before .loop-test .taken))),
+      rw (add-one, take-suc (rest h) (h .loop .i) 0, take-suc (word h) (h .loop .i) 0, same, h .loop .inv .2),
     )
 
 returns-3 : tie.Need-returns-3 Inv-loop μ-loop
 returns-3 c =
-    let s = c .before .before in
-    let l = c .before .loop in
-    let e : l .i ≡ length (s .args .word .now) = omega arith in
-    rw e (word-passed (s .args .word .now) (s .args .text .now) (s .args .from .at) (rw e at (l .inv .1))
-    (rw e at (l .inv .2)))
+    let h = c .before in
+    let e : h .loop .i ≡ length (word h) = omega arith in
+    rw e (word-passed (word h) (h .before .args .text .now) (h .before .args .from .at) (rw e at (h .loop .inv .1))
+    (rw e at (h .loop .inv .2)))
 
 pub read-word-spec : {M : Type 1} → statement M
 read-word-spec =
