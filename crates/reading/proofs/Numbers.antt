@@ -23,29 +23,24 @@ Ends end v (b ∷ s) w =
     ⊎ ((d : ℕ) × Digit b d × (1 ≤ 10 * v + d) × Ends end (10 * v + d) s w)
 
 module _ (end : ℕ) (other : end < nought) where
-  -- the digits of v in front
-  onto : (k v w : ℕ) (t : List ℕ) → v ≤ k → Ends end v t w → Ends end 0 (digits v ++ t) w
-  onto zero v w t h e = let z : v ≡ 0 = omega arith in rw (z, digits-zero) (rw z at e)
-  onto (suc k) v w t h e =
+  -- the digits of v in front of a text, put there and taken off again
+  in-front : (k v w : ℕ) (t : List ℕ) → v ≤ k →
+      (Ends end v t w → Ends end 0 (digits v ++ t) w) × (Ends end 0 (digits v ++ t) w → Ends end v t w)
+  in-front zero v w t h = let z : v ≡ 0 = omega arith in rw (z, digits-zero) ((λ e. e), (λ e. e))
+  in-front (suc k) v w t h =
       by-eq v 0
-      (λ z. rw (z, digits-zero) (rw z at e))
+      (λ z. rw (z, digits-zero) ((λ e. e), (λ e. e)))
       (λ z.
       let digit : Digit (nought + v % 10) (v % 10) = record { small = omega arith; byte = refl } in
       let last : 10 * (v / 10) + v % 10 ≡ v = omega arith in
-      rw (digits-last v (omega arith), append-assoc)
-      (onto k (v / 10) w ((nought + v % 10) ∷ t) (omega arith) (inr (v % 10, digit, omega arith, rw last e))))
-
-  -- and taken off again
-  off : (k v w : ℕ) (t : List ℕ) → v ≤ k → Ends end 0 (digits v ++ t) w → Ends end v t w
-  off zero v w t h e = let z : v ≡ 0 = omega arith in rw z (rw (z, digits-zero) at e)
-  off (suc k) v w t h e =
-      by-eq v 0
-      (λ z. rw z (rw (z, digits-zero) at e))
-      (λ z.
-      ⊎-elim
-      (λ a. absurd (omega arith))
-      (λ a. let same : 10 * (v / 10) + a .0 ≡ v = omega arith in rw same at (a .3))
-      (off k (v / 10) w ((nought + v % 10) ∷ t) (omega arith) (rw (digits-last v (omega arith), append-assoc) at e)))
+      let f = in-front k (v / 10) w ((nought + v % 10) ∷ t) (omega arith) in
+      rw (digits-last v (omega arith), append-assoc) (
+        (λ e. f .0 (inr (v % 10, digit, omega arith, rw last e))),
+        (λ e. ⊎-elim
+            (λ a. absurd (omega arith))
+            (λ a. let same : 10 * (v / 10) + a .0 ≡ v = omega arith in rw same at (a .3))
+            (f .1 e)),
+      ))
 
   grows : (s : List ℕ) (v w : ℕ) → Ends end v s w → v ≤ w
   grows [] v w e = absurd e
@@ -53,11 +48,11 @@ module _ (end : ℕ) (other : end < nought) where
 
   -- the text of a number
   number-ends : (w : ℕ) (y : List ℕ) → 1 ≤ w → Ends end 0 ((decimal w ++ end ∷ []) ++ y) w
-  number-ends w y h = rw (decimal-digits w h, append-assoc) (onto w w w (end ∷ y) (omega arith) (inl (refl, refl)))
+  number-ends w y h = rw (decimal-digits w h, append-assoc) (in-front w w w (end ∷ y) (omega arith) .0 (inl (refl, refl)))
 
   -- what stands behind the digits of v, where the text of a number w begins with them
   next : (v w : ℕ) (t y : List ℕ) → 1 ≤ w → digits v ++ t ≡ (decimal w ++ end ∷ []) ++ y → Ends end v t w
-  next v w t y h e = off v v w t (omega arith) (rw (← e) at (number-ends w y h))
+  next v w t y h e = in-front v v w t (omega arith) .1 (rw (← e) at (number-ends w y h))
 
   -- only 0 begins with the digit 0
   pub zero-differs : (w : ℕ) (x y : List ℕ) → 1 ≤ w → decimal 0 ++ (end ∷ x) ≡ decimal w ++ (end ∷ y) → ⊥
@@ -80,22 +75,20 @@ module _ (end : ℕ) (other : end < nought) where
     begun =
         by-eq v 0
         (λ z. (1, record { low = omega arith; high = some }, (decimal 1 ++ end ∷ [], rw (front, z, digits-zero))))
-        (λ z. (
-          v,
-          record { low = omega arith; high = high },
-          (end ∷ [], rw (front, decimal-digits v (omega arith))),
-        ))
+        (λ z. (v, record { low = omega arith; high = high }, (end ∷ [], rw (front, decimal-digits v (omega arith)))))
+
+    long : length s ≡ length (digits v) + length t
+    long = rw (split, length-append)
 
     -- the text ends behind the digits of v
     pub number-cut : t ≡ [] → Stops (numberPiece most end) s (length (digits v))
     number-cut e =
-        let long = ap length split ∙ length-append (digits v) t in
-        let none = ap length e in
+        let none : length s ≡ length (digits v) = omega (arith, long, ap length e) in
         record {
           within = omega arith;
           begun = begun;
           no-more = λ l w hw y g. omega arith;
-          no-text = λ w hw y g. rw e at (next v w t y (hw .low) (sym split ∙ g));
+          no-text = λ w hw y g. rw e at (next v w t y (hw .low) (cc));
         }
 
     -- the byte behind them goes on with no number and does not end one
@@ -104,10 +97,7 @@ module _ (end : ℕ) (other : end < nought) where
         → (b ≡ end → v ≡ 0)
         → Stops (numberPiece most end) s (length (digits v))
     number-stops b u e no-digit no-end =
-        let n = length (digits v) in
-        let long = ap length split ∙ length-append (digits v) t in
-        let more = ap length e in
-        let here : take (suc n) s ≡ digits v ++ b ∷ [] = rw (← add-one, split, take-append-add, e) in
+        let here : take (suc (length (digits v))) s ≡ digits v ++ b ∷ [] = rw (← add-one, split, take-append-add, e) in
         let wrong : (w : ℕ) (z y : List ℕ) → Between most w → digits v ++ (b ∷ z) ≡ (decimal w ++ end ∷ []) ++ y → ⊥ =
         λ w z y hw g.
         ⊎-elim
@@ -115,7 +105,7 @@ module _ (end : ℕ) (other : end < nought) where
         (λ q. no-digit (q .0) (q .1) (record { low = q .2; high = omega (arith, grows z (10 * v + q .0) w (q .3)) }))
         (next v w (b ∷ z) y (hw .low) g) in
         record {
-          within = omega arith;
+          within = omega (arith, long);
           begun = begun;
           no-more = λ l w hw y g. wrong w (g .0) y hw (cc (append-assoc (digits v) (b ∷ []) (g .0)));
           no-text = λ w hw y g. wrong w u y hw (cc);

@@ -1,6 +1,6 @@
 -- Laws of pieces of text: a piece behind another, and one piece for another with the same texts.
 use Prim.Native.Nat.{ℕ, suc, _+_, _≤_}
-use mathlib.Core.Path.{_≡_, refl, sym, ap, _∙_}
+use mathlib.Core.Path.{_≡_, refl}
 use mathlib.Core.List.{List, [], _∷_, _++_, append-assoc}
 use native.Mathlib.Omega.{arith}
 use native.Mathlib.Nat.{add-suc}
@@ -37,63 +37,57 @@ code-word w a b ha hb x y e = refl
 -- and what follows it
 pub code-rest : (P : Piece) → Code P → (a b : P .Value) → P .Allowed a → P .Allowed b → (x y : List ℕ) →
     P .text a ++ x ≡ P .text b ++ y → x ≡ y
-code-rest P code a b ha hb x y e =
-    let q = code a b ha hb x y e in cancel (P .text b) (rw q at e)
+code-rest P code a b ha hb x y e = cancel (P .text b) (rw (code a b ha hb x y e) at e)
+
+pub code-both : (P Q : Piece) → Code P → Code Q → Code (both P Q)
+code-both P Q p q a b ha hb x y e =
+    let f = simp append-assoc at e in
+    let u = p (a .0) (b .0) (ha .0) (hb .0) (Q .text (a .1) ++ x) (Q .text (b .1) ++ y) f in
+    let r = code-rest P p (a .0) (b .0) (ha .0) (hb .0) (Q .text (a .1) ++ x) (Q .text (b .1) ++ y) f in
+    let v = q (a .1) (b .1) (ha .1) (hb .1) x y r in λ i. (u i, v i)
 
 module _ (P Q : Piece) where
-  behind : (a : P .Value) (b : Q .Value) (y : List ℕ) → both P Q .text (a, b) ++ y ≡ P .text a ++ (Q .text b ++ y)
-  behind a b y = append-assoc (P .text a) (Q .text b) y
-
-  pub code-both : Code P → Code Q → Code (both P Q)
-  code-both p q a b ha hb x y e =
-      let f = sym (behind (a .0) (a .1) x) ∙ e ∙ behind (b .0) (b .1) y in
-      let u = p (a .0) (b .0) (ha .0) (hb .0) (Q .text (a .1) ++ x) (Q .text (b .1) ++ y) f in
-      let r = code-rest P p (a .0) (b .0) (ha .0) (hb .0) (Q .text (a .1) ++ x) (Q .text (b .1) ++ y) f in
-      let v = q (a .1) (b .1) (ha .1) (hb .1) x y r in λ i. (u i, v i)
-
   -- stuck in the first, where some text of the second could follow
   both-first : {s : List ℕ} {p : ℕ} → Stops P s p → (b : Q .Value) → Q .Allowed b → Stops (both P Q) s p
   both-first {s} {p} h b hb =
       record {
         within = h .within;
         begun = ((h .begun .0, b), (h .begun .1, hb), begins-on (take p s) (Q .text b) (h .begun .2));
-        no-more = λ l v hv y g. h .no-more l (v .0) (hv .0) (Q .text (v .1) ++ y) (g .0, g .1 ∙ behind (v .0) (v .1) y);
-        no-text = λ v hv y e. h .no-text (v .0) (hv .0) (Q .text (v .1) ++ y) (e ∙ behind (v .0) (v .1) y);
+        no-more = λ l v hv y g. h .no-more l (v .0) (hv .0) (Q .text (v .1) ++ y) (rw append-assoc at g);
+        no-text = λ v hv y e. h .no-text (v .0) (hv .0) (Q .text (v .1) ++ y) (rw append-assoc at e);
       }
 
   -- past the first and stuck in the second
   both-second : {s t : List ℕ} {p : ℕ} → Code P → (a : P .Value) → P .Allowed a → s ≡ P .text a ++ t → Stops Q t p
       → Stops (both P Q) s (length (P .text a) + p)
   both-second {s} {t} {p} code a ha e h =
-      let n = length (P .text a) in
-      let long = ap length e ∙ length-append (P .text a) t in
-      let front : (m : ℕ) → take (n + m) s ≡ P .text a ++ take m t =
-      λ m. ap (take (n + m)) e ∙ take-append-add (P .text a) t m in
+      let long : length s ≡ length (P .text a) + length t = rw (e, length-append) in
+      let front : (m : ℕ) → take (length (P .text a) + m) s ≡ P .text a ++ take m t = λ m. rw (e, take-append-add) in
       record {
-        within = let w = h .within in omega arith;
+        within = omega arith;
         begun = ((a, h .begun .0), (ha, h .begun .1), rw (front p) (begins-behind (P .text a) (take p t) (h .begun .2)));
         no-more = λ l v hv y g.
+            let f = simp append-assoc at (rw (← add-suc, front (suc p)) at (g .1)) in
             h .no-more (omega arith) (v .1) (hv .1) y (
               g .0,
-              code-rest P code a (v .0) ha (hv .0) (take (suc p) t ++ g .0) (Q .text (v .1) ++ y)
-                  (rw (← append-assoc, ← front (suc p), add-suc n p) (g .1) ∙ behind (v .0) (v .1) y),
+              code-rest P code a (v .0) ha (hv .0) (take (suc p) t ++ g .0) (Q .text (v .1) ++ y) f,
             );
-        no-text = λ v hv y g.
-            h .no-text (v .1) (hv .1) y
-            (code-rest P code a (v .0) ha (hv .0) t (Q .text (v .1) ++ y) (sym e ∙ g ∙ behind (v .0) (v .1) y));
+        no-text = λ v hv y g. h .no-text (v .1) (hv .1) y
+            (code-rest P code a (v .0) ha (hv .0) t (Q .text (v .1) ++ y) (rw (e, append-assoc) at g));
       }
 
   pub stuck-first : {s : List ℕ} {at place : ℕ} → Stuck P s at place → (b : Q .Value) → Q .Allowed b →
       Stuck (both P Q) s at place
   stuck-first h b hb = record { ahead = h .ahead; reached = h .reached; stops = both-first (h .stops) b hb }
 
+module _ {P Q : Piece} where
   pub stuck-second : {s : List ℕ} {at m place : ℕ} {a : P .Value} → Code P → Passed P s at a m → Stuck Q s m place →
       Stuck (both P Q) s at place
   stuck-second {s} {at} {m} {place} {a} code f h =
       record {
         ahead = length (P .text a) + h .ahead;
-        reached = let r = h .reached in let q = f .behind in omega arith;
-        stops = both-second code a (f .allowed) (f .split) (h .stops);
+        reached = omega arith;
+        stops = both-second P Q code a (f .allowed) (f .split) (h .stops);
       }
 
   pub passed-both : {s : List ℕ} {at m n : ℕ} {a : P .Value} {b : Q .Value} → Passed P s at a m → Passed Q s m b n →
@@ -102,8 +96,8 @@ module _ (P Q : Piece) where
       record {
         allowed = (f .allowed, g .allowed);
         within = g .within;
-        behind = let p = f .behind in let q = g .behind in omega (arith, length-append (P .text a) (Q .text b));
-        split = f .split ∙ ap (λ (l : List ℕ). P .text a ++ l) (g .split) ∙ sym (behind a b (drop n s));
+        behind = omega (arith, length-append (P .text a) (Q .text b));
+        split = cc (append-assoc (P .text a) (Q .text b) (drop n s));
       }
 
 -- two pieces with the same texts
@@ -120,8 +114,7 @@ module _ {P Q : Piece} (e : Alike P Q) where
   alike-stops {s} {p} h =
       record {
         within = h .within;
-        begun =
-            let v = h .begun .0 in (e .to v, e .allowed-to v (h .begun .1), rw (← e .text-to v) (h .begun .2));
+        begun = let v = h .begun .0 in (e .to v, e .allowed-to v (h .begun .1), rw (← e .text-to v) (h .begun .2));
         no-more = λ l w hw y g. h .no-more l (e .back w) (e .allowed-back w hw) y (rw (e .text-back w) g);
         no-text = λ w hw y g. h .no-text (e .back w) (e .allowed-back w hw) y (rw (e .text-back w) g);
       }

@@ -6,7 +6,7 @@ use native.Mathlib.Omega.{arith}
 use lib.ListN.{drop}
 use Rattle.counting.proofs.Cases.{by-le}
 use Rattle.decimal.specs.Decimal.{nought}
-use Rattle.reading.specs.inside.Piece.{Piece, wordPiece, numberPiece, Stops, Passed, Stuck}
+use Rattle.reading.specs.inside.Piece.{Piece, Stops, Passed, Stuck}
 use Rattle.reading.specs.inside.Read.{ReadsWord, ReadsNumber}
 use Rattle.reading.specs.declared.WordRead.{WordRead}
 use Rattle.reading.specs.declared.WordRead.the-variants as word
@@ -15,7 +15,7 @@ use Rattle.reading.specs.declared.NumberRead.the-variants as number
 use Rattle.reading.proofs.Pieces.{begins-less, Code, code-word}
 use Rattle.reading.proofs.Numbers.{code-number}
 
-module _ (P : Piece) where
+module _ {P : Piece} where
   -- where one text of the piece begins with q bytes, the reader does not stop before them
   stops-late : {s : List ℕ} {p q : ℕ} → Stops P s p → Stops P s q → q ≤ p
   stops-late {s} {p} {q} a b =
@@ -25,8 +25,7 @@ module _ (P : Piece) where
       absurd (a .no-more (omega arith) (g .0) (g .1) [] (rw append-nil (begins-less s (suc p) q h (g .2)))))
 
   stuck-unique : {s : List ℕ} {at p q : ℕ} → Stuck P s at p → Stuck P s at q → p ≡ q
-  stuck-unique a b =
-      omega (arith, stops-late (a .stops) (b .stops), stops-late (b .stops) (a .stops))
+  stuck-unique a b = omega (arith, stops-late (a .stops) (b .stops), stops-late (b .stops) (a .stops))
 
   passed-or-stuck : {X : Type 0} {s : List ℕ} {at next place : ℕ} {v : P .Value} →
       Passed P s at v next → Stuck P s at place → X
@@ -41,17 +40,16 @@ module _ (P : Piece) where
 
 pub word-unique : (w s : List ℕ) (at : ℕ) (a b : WordRead) → ReadsWord w s at a → ReadsWord w s at b → a ≡ b
 word-unique w s at (word.Past m) (word.Past n) p q =
-    let e = passed-unique (wordPiece w) (code-word w) p q .1 in λ i. word.Past (record { at = e i })
-word-unique w s at (word.Past m) (word.Stuck place) p q = passed-or-stuck (wordPiece w) p q
-word-unique w s at (word.Stuck place) (word.Past n) p q = passed-or-stuck (wordPiece w) q p
-word-unique w s at (word.Stuck a) (word.Stuck b) p q = ap word.Stuck (stuck-unique (wordPiece w) p q)
+    let e = passed-unique (code-word w) p q .1 in λ i. word.Past (record { at = e i })
+word-unique w s at (word.Past m) (word.Stuck place) p q = passed-or-stuck p q
+word-unique w s at (word.Stuck place) (word.Past n) p q = passed-or-stuck q p
+word-unique w s at (word.Stuck a) (word.Stuck b) p q = ap word.Stuck (stuck-unique p q)
 
 pub number-unique : (most end : ℕ) → end < nought → (s : List ℕ) (at : ℕ) (a b : NumberRead) →
     ReadsNumber most end s at a → ReadsNumber most end s at b → a ≡ b
 number-unique most end other s at (number.Past v m) (number.Past w n) p q =
-    let e = passed-unique (numberPiece most end) (code-number end other most) p q in
+    let e = passed-unique (code-number end other most) p q in
     λ i. number.Past (e .0 i) (record { at = e .1 i })
-number-unique most end other s at (number.Past v m) (number.Stuck _) p q = passed-or-stuck (numberPiece most end) p q
-number-unique most end other s at (number.Stuck _) (number.Past w n) p q = passed-or-stuck (numberPiece most end) q p
-number-unique most end other s at (number.Stuck a) (number.Stuck b) p q =
-    ap number.Stuck (stuck-unique (numberPiece most end) p q)
+number-unique most end other s at (number.Past v m) (number.Stuck _) p q = passed-or-stuck p q
+number-unique most end other s at (number.Stuck _) (number.Past w n) p q = passed-or-stuck q p
+number-unique most end other s at (number.Stuck a) (number.Stuck b) p q = ap number.Stuck (stuck-unique p q)

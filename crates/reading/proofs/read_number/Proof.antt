@@ -6,7 +6,7 @@ use lib.ListN.{drop, drop-of-length-le, length, getD}
 use lib.Seq.{drop-cons}
 use Rattle.decimal.specs.Decimal.{digits}
 use Rattle.decimal.proofs.Decimal.{digits-zero}
-use Rattle.reading.specs.inside.Piece.{numberPiece, Stuck}
+use Rattle.reading.specs.inside.Piece.{Piece, numberPiece, Stops, Stuck}
 use Rattle.reading.proofs.Numbers.{number-cut, number-stops, number-passed, number-grows}
 use Prim.Native.Nat.{ℕ, _≤_, _+_, _-_}
 use native.Mathlib.Omega.{arith}
@@ -38,6 +38,13 @@ module _ (h : tie.At-loop Inv-loop μ-loop) where
   abbrev behind : List ℕ
   behind = drop (h .loop .at + 1) text
 
+  abbrev P : Piece
+  P = numberPiece (s .args .most) (s .args .end)
+
+  -- stuck behind the digits read
+  held : Stops P whole (length (digits (h .loop .v))) → Stuck P text (s .args .from .at) (h .loop .at)
+  held stops = record { ahead = length (digits (h .loop .v)); reached = h .loop .inv .2; stops = stops }
+
 -- the byte at hand stands behind the digits read
 ahead : (c : tie.In-loop Inv-loop μ-loop) →
     let h = c .before in whole h ≡ digits (h .loop .v) ++ (byte h ∷ behind h)
@@ -48,18 +55,12 @@ ahead c =
 -- where it neither goes on with a number nor ends one
 stuck : (c : tie.After-enum-told Inv-loop μ-loop) →
     let h = c .before .before .before .before .before in
-    (byte h ≡ s h .args .end → h .loop .v ≡ 0) →
-    Stuck (numberPiece (s h .args .most) (s h .args .end)) (text h) (s h .args .from .at) (h .loop .at)
+    (byte h ≡ s h .args .end → h .loop .v ≡ 0) → Stuck (P h) (text h) (s h .args .from .at) (h .loop .at)
 stuck c none =
     let h = c .before .before .before .before .before in
-    record {
-      ahead = length (digits (h .loop .v));
-      reached = h .loop .inv .2;
-      stops =
-          number-stops (s h .args .end) (s h .pre .3) (s h .args .most) (h .loop .v) (whole h) (byte h ∷ behind h)
-          (s h .pre .1) (h .loop .inv .1) (ahead (c .before .before .before .before)) (byte h) (behind h) refl
-          (rw (c .enum-told .given .1) at (c .before .before .grow .ensures)) none;
-    }
+    held h (number-stops (s h .args .end) (s h .pre .3) (s h .args .most) (h .loop .v) (whole h) (byte h ∷ behind h)
+    (s h .pre .1) (h .loop .inv .1) (ahead (c .before .before .before .before)) (byte h) (behind h) refl
+    (rw (c .enum-told .given .1) at (c .before .before .grow .ensures)) none)
 
 loop-holds : tie.Need-loop-holds Inv-loop μ-loop
 loop-holds c = (c .before .pre .0, search needs, omega (arith, ap length digits-zero), rw digits-zero)
@@ -85,13 +86,9 @@ returns c =
 returns-4 : tie.Need-returns-4 Inv-loop μ-loop
 returns-4 c =
     let h = c .before in
-    record {
-      ahead = length (digits (h .loop .v));
-      reached = h .loop .inv .2;
-      stops =
-          number-cut (s h .args .end) (s h .pre .3) (s h .args .most) (h .loop .v) (whole h) (drop (h .loop .at) (text h))
-          (s h .pre .1) (h .loop .inv .1) (h .loop .inv .3) (drop-of-length-le (text h) (c .loop-test .left));
-    }
+    held h (number-cut (s h .args .end) (s h .pre .3) (s h .args .most) (h .loop .v) (whole h)
+    (drop (h .loop .at) (text h)) (s h .pre .1) (h .loop .inv .1) (h .loop .inv .3)
+    (drop-of-length-le (text h) (c .loop-test .left)))
 
 pub read-number-spec : {M : Type 1} → statement M
 read-number-spec =

@@ -18,9 +18,6 @@ Inv-loop text word start i₀ i =
 abbrev μ-loop : tie.MeasureT-loop
 μ-loop text word start i₀ i = length word - i
 
-loop-holds : tie.Need-loop-holds Inv-loop μ-loop
-loop-holds c = (search needs, let p = c .pre in omega arith, refl)
-
 -- the word, and the text from the start on
 module _ (h : tie.At-loop Inv-loop μ-loop) where
   abbrev word : List ℕ
@@ -61,6 +58,6 @@ returns-3 c =
 
 pub read-word-spec : {M : Type 1} → statement M
 read-word-spec =
-    tie.close (tie.spec Inv-loop μ-loop loop-holds (λ c. search needs) (λ c. search needs) returns
-    (λ c. search needs) (λ c. search needs) (λ c. search needs) (λ c. search needs) returns-2 (λ c. search needs)
-    (λ c. search needs) loop-again (λ c. search needs) returns-3)
+    tie.close (tie.spec Inv-loop μ-loop (λ c. (search needs, omega arith, refl)) (λ c. search needs)
+    (λ c. search needs) returns (λ c. search needs) (λ c. search needs) (λ c. search needs) (λ c. search needs)
+    returns-2 (λ c. search needs) (λ c. search needs) loop-again (λ c. search needs) returns-3)
