@@ -1,5 +1,5 @@
 -- Laws of the lines of a sheet: what they are made of, and that each tells what it says.
-use Prim.Native.Nat.{ℕ, _+_, _≤_}
+use Prim.Native.Nat.{ℕ, _≤_}
 use mathlib.Core.Path.{_≡_, sym, ap}
 use mathlib.Core.List.{List, [], _∷_, append-assoc}
 use native.Mathlib.Omega.{arith}
@@ -64,61 +64,54 @@ task-alike =
       text-back = λ t. task-text (t .C) (t .D) (t .T);
     }
 
-pub code-spaced : Code (numberPiece longest-time 32)
+-- a time with a space behind it, and one that ends the line
+abbrev pub Spaced : Piece
+Spaced = numberPiece longest-time 32
+
+abbrev pub Ended : Piece
+Ended = numberPiece longest-time 10
+
+pub code-spaced : Code Spaced
 code-spaced = code-number 32 (omega arith) longest-time
 
-pub code-times : Code timesPiece
+code-times : Code timesPiece
 code-times =
-    code-both (numberPiece longest-time 32) (both (numberPiece longest-time 32) (numberPiece longest-time 10))
-    code-spaced
-    (code-both (numberPiece longest-time 32) (numberPiece longest-time 10) code-spaced
-    (code-number 10 (omega arith) longest-time))
+    let two = code-both Spaced Ended code-spaced (code-number 10 (omega arith) longest-time) in
+    code-both Spaced (both Spaced Ended) code-spaced two
 
 pub code-task : Code taskPiece
 code-task =
     alike-code task-alike
-    (λ v w e. λ i. record { C = e i .1 .0; D = e i .1 .1 .0; T = e i .1 .1 .1 })
+    (λ v w e i. record { C = e i .1 .0; D = e i .1 .1 .0; T = e i .1 .1 .1 })
     (code-both (wordPiece (word "task ")) timesPiece (code-word (word "task ")) code-times)
 
 -- how long the lines are
 pub tick-length : (n : ℕ) → Between longest-tick n → length (tickLine n) ≤ 10
 unfolding tickLine
-tick-length n h = let l = h .high in simp length-append (omega (arith, few 3 n (omega arith)))
+tick-length n h = simp length-append (omega (arith, few 3 n (omega arith)))
 
 pub task-length : (t : Task) → TaskWithin t → (1 ≤ length (taskLine t)) × (length (taskLine t) ≤ 38)
 unfolding taskLine
 task-length t h =
-    let c = h .C .high in
-    let d = h .D .high in
-    let s = h .T .high in
-    let e : length (taskLine t) ≡ length (decimal (t .C)) + length (decimal (t .D)) + length (decimal (t .T)) + 8 =
-    simp length-append (omega arith) in (
-      omega arith,
-      omega (arith, few 9 (t .C) (omega arith), few 9 (t .D) (omega arith), few 9 (t .T) (omega arith)),
-    )
+    let c = few 9 (t .C) (omega arith) in
+    let d = few 9 (t .D) (omega arith) in
+    let s = few 9 (t .T) (omega arith) in
+    (simp length-append (omega arith), simp length-append (omega arith))
 
 -- 1 is within every limit
-one-within : {most : ℕ} → 1 ≤ most → Between most 1
-one-within h = record { low = omega arith; high = h }
-
 pub one-time : Between longest-time 1
-one-time = one-within (omega arith)
+one-time = record { low = omega arith; high = omega arith }
 
 pub one-tick : Between longest-tick 1
-one-tick = one-within (omega arith)
+one-tick = record { low = omega arith; high = omega arith }
 
 -- a word read, and what is read behind it
 pub reads-tick : (s : List ℕ) (m : ℕ) (r : NumberRead) → Passed (wordPiece (word "tick ")) s 0 tt m →
     ReadsNumber longest-tick 10 s m r → ReadsTick s r
-reads-tick s m (number.Past tick next) f h =
-    alike-passed tick-alike (passed-both (wordPiece (word "tick ")) (numberPiece longest-tick 10) f h)
-reads-tick s m (number.Stuck place) f h =
-    alike-stuck tick-alike (stuck-second (wordPiece (word "tick ")) (numberPiece longest-tick 10)
-    (code-word (word "tick ")) f h)
+reads-tick s m (number.Past tick next) f h = alike-passed tick-alike (passed-both f h)
+reads-tick s m (number.Stuck place) f h = alike-stuck tick-alike (stuck-second (code-word (word "tick ")) f h)
 
 pub reads-task : (s : List ℕ) (at m : ℕ) (r : LineRead) → Passed (wordPiece (word "task ")) s at tt m →
     ReadsTimes s m r → ReadsTask s at r
-reads-task s at m (line.Past t next) f h = alike-passed task-alike
-    (passed-both (wordPiece (word "task ")) timesPiece f h)
-reads-task s at m (line.Stuck place) f h =
-    alike-stuck task-alike (stuck-second (wordPiece (word "task ")) timesPiece (code-word (word "task ")) f h)
+reads-task s at m (line.Past t next) f h = alike-passed task-alike (passed-both f h)
+reads-task s at m (line.Stuck place) f h = alike-stuck task-alike (stuck-second (code-word (word "task ")) f h)

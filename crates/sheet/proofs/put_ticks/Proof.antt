@@ -63,6 +63,5 @@ returns c =
 
 pub put-ticks-spec : {M : Type 1} → statement M
 put-ticks-spec =
-    tie.close
-    (tie.spec round-up-requires cast-row slice-write-row round-up-requires-2 cast-row-2 slice-write-row-2
+    tie.close (tie.spec round-up-requires cast-row slice-write-row round-up-requires-2 cast-row-2 slice-write-row-2
     round-up-requires-3 cast-row-3 slice-write-row-3 same-length returns)

@@ -157,8 +157,7 @@ returns-3 c =
 
 pub read-tasks-spec : {M : Type 1} → statement M
 read-tasks-spec =
-    tie.close
-    (tie.spec Inv-loop μ-loop loop-holds read-task-requires (λ c. search needs) same-length returns
+    tie.close (tie.spec Inv-loop μ-loop loop-holds read-task-requires (λ c. search needs) same-length returns
     (λ c. search needs) (λ c. search needs) (λ c. search needs) (λ c. search needs) (λ c. search needs)
-    (λ c. search needs) part-put-ticks-start part-put-ticks-end put-ticks-requires (λ c. search needs)
-    same-length-2 returns-2 loop-less loop-again same-length-3 returns-3)
+    (λ c. search needs) part-put-ticks-start part-put-ticks-end put-ticks-requires (λ c. search needs) same-length-2
+    returns-2 loop-less loop-again same-length-3 returns-3)

@@ -79,7 +79,5 @@ returns-2 c =
 
 pub sheet-spec : {M : Type 1} → statement M
 sheet-spec =
-    tie.close
-    (tie.spec (λ c. search needs) (λ c κs. search needs) (λ c. search needs) cast-t10 (λ c. search needs)
-    mul-table array-share-prefix-table slice-aggregate-give give-requires returns (λ c. search needs)
-    returns-2)
+    tie.close (tie.spec (λ c. search needs) (λ c κs. search needs) (λ c. search needs) cast-t10 (λ c. search needs)
+    mul-table array-share-prefix-table slice-aggregate-give give-requires returns (λ c. search needs) returns-2)
