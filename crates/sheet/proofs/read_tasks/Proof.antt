@@ -1,14 +1,14 @@
 -- `read_tasks` meets its contract. The loop's invariant: n tasks have been read and their rows stand at the front of
 -- the table, and behind one of them the text goes on.
 use mathlib.Core.Path.{subst, _≡_, refl, ap, _∙_}
-use mathlib.Core.List.{[], _∷_, _++_}
+use mathlib.Core.List.{List, [], _∷_, _++_}
 use lib.ListN.{drop, length-append, length-drop, length}
 use lib.Seq.{length-take-le}
 use borrow.Rule.Slice.PartMut.{putMid, same-len-mid}
 use Rattle.counting.proofs.Cases.{by-le}
 use Rattle.tables.specs.Table.{most-rows}
 use Rattle.reading.specs.inside.Piece.{Passed}
-use Rattle.sheet.specs.Sheet.{ticksOf}
+use Rattle.sheet.specs.Sheet.{Task, ticksOf}
 use Rattle.sheet.specs.inside.Read.{taskPiece, taskOf, ReadsTask, Filled}
 use Rattle.sheet.proofs.Fronts.{front-more, front-stuck, front-full}
 use Rattle.sheet.proofs.Ticks.{row-more}
@@ -25,139 +25,109 @@ Inv-loop text tick table₀ at₀ n₀ table at n =
 abbrev μ-loop : tie.MeasureT-loop
 μ-loop text tick table₀ at₀ n₀ table at n = most-rows - n
 
--- a task line was there
-line : (c : tie.After-known-told2 Inv-loop μ-loop) →
-    Passed taskPiece (c .before .before .before .before .before .before .before .before .args .text .now)
-    (c .before .before .before .before .before .loop .at) (taskOf (c .before .line2 .given .0 .0))
-    (c .before .line2 .given .0 .1 .0 .at)
-line c =
-    subst (ReadsTask (c .before .before .before .before .before .before .before .before .args .text .now)
-    (c .before .before .before .before .before .loop .at)) (c .before .line2 .given .1)
-    (c .before .before .before .read-task .ensures)
+-- how far the loop has come, and where a task line was there, its task and the place behind it
+module _ (k : tie.After-known-told2 Inv-loop μ-loop) where
+  abbrev h : tie.At-loop Inv-loop μ-loop
+  h = k .before .before .before .before .before
 
--- and its row stands behind the others
-more : (c : tie.After-slice-known2 Inv-loop μ-loop) →
-    let s = c .before .before .before .before .before .before .before .before .before .before .before .before in
-    let l = c .before .before .before .before .before .before .before .before .before .loop in
-    Filled (s .args .text .now) (s .args .tick) (s .args .table .now)
-    (c .before .before .before .before .before .line2 .given .0 .1 .0 .at) (l .n + 1)
-    (putMid (3 * l .n) (3 * l .n + 3 - 3 * l .n) (l .table) (c .before .before .put-ticks .last .0))
-more c =
-    let s = c .before .before .before .before .before .before .before .before .before .before .before .before in
-    let l = c .before .before .before .before .before .before .before .before .before .loop in
-    let f = l .inv .3 in
-    let t = taskOf (c .before .before .before .before .before .line2 .given .0 .0) in
-    let p = line (c .before .before .before .before) in
-    let few = c .before .before .before .before .before .before .before .before .loop-test .taken in
-    let many = f .many in
-    record {
-      tasks = f .tasks ++ t ∷ [];
-      front =
-          front-more (s .args .text .now) (s .args .tick) (f .tasks) (l .at) (f .front) t
-          (c .before .before .before .before .before .line2 .given .0 .1 .0 .at) (omega arith) p;
-      many = length-append (f .tasks) (t ∷ []) ∙ ap (λ (n : ℕ). n + 1) many;
-      rows = row-more (s .args .tick) (l .n) (f .tasks) t (s .args .table .now) (l .table)
-          (c .before .before .put-ticks .last .0) many (f .rows) (c .before .before .put-ticks .ensures);
-    }
+  abbrev s : tie.Start Inv-loop μ-loop
+  s = h .before .before .before
+
+  abbrev task : Task
+  task = taskOf (k .before .line2 .given .0 .0)
+
+  abbrev next : ℕ
+  next = k .before .line2 .given .0 .1 .0 .at
+
+  line : Passed taskPiece (s .args .text .now) (h .loop .at) task next
+  line = rw (k .before .line2 .given .1) at (k .before .before .before .read-task .ensures)
+
+-- its row stands behind the others
+module _ (c : tie.After-slice-known2 Inv-loop μ-loop) where
+  abbrev k : tie.After-known-told2 Inv-loop μ-loop
+  k = c .before .before .before .before
+
+  abbrev n : ℕ
+  n = h k .loop .n
+
+  abbrev table : List ℕ
+  table = putMid (3 * n) (3 * n + 3 - 3 * n) (h k .loop .table) (c .before .before .put-ticks .last .0)
+
+  same : length table ≡ length (s k .args .table .now)
+  same =
+      let p = c .before .before .put-ticks in
+      same-len-mid (3 * n) (3 * n + 3 - 3 * n) (h k .loop .table) (p .last .0) (p .kept .0) ∙ h k .loop .inv .1
+
+  more : Filled (s k .args .text .now) (s k .args .tick) (s k .args .table .now) (next k) (n + 1) table
+  more =
+      let l = h k .loop in
+      let f = l .inv .3 in
+      record {
+        tasks = f .tasks ++ task k ∷ [];
+        front =
+            front-more (s k .args .text .now) (s k .args .tick) (f .tasks) (l .at) (f .front) (task k) (next k)
+            (omega (arith, k .before .before .before .before .loop-test .taken)) (line k);
+        many = simp length-append (omega arith);
+        rows =
+            row-more (s k .args .tick) (l .n) (f .tasks) (task k) (s k .args .table .now) (l .table)
+            (c .before .before .put-ticks .last .0) (f .many) (f .rows) (c .before .before .put-ticks .ensures);
+      }
 
 loop-holds : tie.Need-loop-holds Inv-loop μ-loop
 unfolding ticksOf
-loop-holds c =
-    let s = c .before .before in
-    (omega arith, refl, (λ h. absurd (omega arith)), record { tasks = []; front = s .pre .0; many = refl; rows = refl })
-
-read-task-requires : tie.Need-read-task-requires Inv-loop μ-loop
-read-task-requires c κs = c .before .loop .inv .3 .front .within
-
-same-length : tie.Need-same-length Inv-loop μ-loop
-same-length c = c .before .before .before .before .before .loop .inv .1
+loop-holds c = (
+  omega arith,
+  refl,
+  (λ h. absurd (omega arith)),
+  record { tasks = []; front = c .before .before .pre .0; many = refl; rows = refl },
+)
 
 returns : tie.Need-returns Inv-loop μ-loop
 returns c =
-    let s = c .before .before .before .before .before .before .before .before in
-    let l = c .before .before .before .before .before .loop in
-    let f = l .inv .3 in
-    let few = c .before .before .before .before .loop-test .taken in
-    let many = f .many in
-    front-stuck (s .args .text .now) (s .args .tick) (f .tasks) (l .at) (f .front) (c .before .line .given .0 .0)
-    (omega arith)
-    (λ h. l .inv .2 (omega arith))
-    (subst (ReadsTask (s .args .text .now) (l .at)) (c .before .line .given .1)
-    (c .before .before .before .read-task .ensures))
-
-part-put-ticks-start : tie.Need-part-put-ticks-start Inv-loop μ-loop
-part-put-ticks-start c = let w = c .before .before .before .before .before .before .before .before .pre .1 in let g =
-    c .before .before .before .before .before .loop .inv .1 in search needs
-
-part-put-ticks-end : tie.Need-part-put-ticks-end Inv-loop μ-loop
-part-put-ticks-end c = let w = c .before .before .before .before .before .before .before .before .pre .1 in let g =
-    c .before .before .before .before .before .loop .inv .1 in search needs
+    let h = c .before .before .before .before .before in
+    let f = h .loop .inv .3 in
+    let stuck = rw (c .before .line .given .1) at (c .before .before .before .read-task .ensures) in
+    let few : length (f .tasks) < most-rows = omega arith in
+    front-stuck _ _ (f .tasks) (h .loop .at) (f .front) (c .before .line .given .0 .0) few
+    (λ l. h .loop .inv .2 (omega arith)) stuck
 
 put-ticks-requires : tie.Need-put-ticks-requires Inv-loop μ-loop
 put-ticks-requires c κs =
-    let s = c .before .before .before .before .before .before .before .before .before in
-    let l = c .before .before .before .before .before .before .loop in
-    let few = c .before .before .before .before .before .loop-test .taken in
-    let long = l .inv .1 in
-    let whole = s .pre .1 in
-    let k : 3 * l .n + 3 - 3 * l .n ≡ 3 = omega arith in (
-      rw k (length-take-le 3 (drop (3 * l .n) (l .table)) (omega (arith, length-drop (3 * l .n) (l .table)))),
-      line (c .before) .allowed,
-      s .pre .0 .tick-within,
-    )
-
-same-length-2 : tie.Need-same-length-2 Inv-loop μ-loop
-same-length-2 c =
-    let l = c .before .before .before .before .before .before .before .before .before .before .loop in
-    same-len-mid (3 * l .n) (3 * l .n + 3 - 3 * l .n) (l .table) (c .before .before .before .put-ticks .last .0)
-    (c .before .before .before .put-ticks .kept .0) ∙ l .inv .1
+    let k = c .before in
+    let l = h k .loop in
+    let whole = s k .pre .1 in
+    let e : 3 * l .n + 3 - 3 * l .n ≡ 3 = omega arith in
+    let room : 3 ≤ length (drop (3 * l .n) (l .table)) = simp length-drop (omega arith) in
+    (rw e (length-take-le 3 (drop (3 * l .n) (l .table)) room), line k .allowed, s k .pre .0 .tick-within)
 
 returns-2 : tie.Need-returns-2 Inv-loop μ-loop
 returns-2 c =
-    let s = c .before .before .before .before .before .before .before .before .before .before .before .before .before in
-    let l = c .before .before .before .before .before .before .before .before .before .before .loop in (
-      omega arith,
-      subst
-          (λ (m : ℕ). Filled (s .args .text .now) (s .args .tick) (s .args .table .now) m (l .n + 1)
-          (putMid (3 * l .n) (3 * l .n + 3 - 3 * l .n) (l .table) (c .before .before .before .put-ticks .last .0)))
-          (c .if1 .taken)
-          (more (c .before)),
-    )
-
-loop-less : tie.Need-loop-less Inv-loop μ-loop
-loop-less c = let t = c .before .before .before .before .before .before .before .before .before .loop-test .taken in
-    omega arith
+    let b = c .before in
+    let a = s (k b) .args in
+    let whole : ℕ → Type 0 = λ m. Filled (a .text .now) (a .tick) (a .table .now) m (n b + 1) (table b) in
+    (omega arith, subst whole (c .if1 .taken) (more b))
 
 loop-again : tie.Need-loop-again Inv-loop μ-loop
 loop-again c =
-    let l = c .before .before .before .before .before .before .before .before .before .before .loop in
-    let t = c .before .before .before .before .before .before .before .before .before .loop-test .taken in
-    let w = line (c .before .before .before .before .before) .within in (
-      omega arith,
-      same-len-mid (3 * l .n) (3 * l .n + 3 - 3 * l .n) (l .table) (c .before .before .before .put-ticks .last .0)
-          (c .before .before .before .put-ticks .kept .0) ∙ l .inv .1,
-      (λ h. by-le (length
-          (c .before .before .before .before .before .before .before .before .before .before .before .before .before .args .text .now)) (c .before .before .before .before .before .before .line2 .given .0 .1 .0 .at) (λ g. absurd (c .if1 .left (omega arith))) (λ g. g)),
-      more (c .before),
+    let b = c .before in (
+      omega (arith, k b .before .before .before .before .loop-test .taken),
+      same b,
+      λ _. by-le (length (s (k b) .args .text .now)) (next (k b))
+          (λ g. absurd (c .if1 .left (omega (arith, line (k b) .within)))) (λ g. g),
+      more b,
     )
-
-same-length-3 : tie.Need-same-length-3 Inv-loop μ-loop
-same-length-3 c = c .before .loop .inv .1
 
 returns-3 : tie.Need-returns-3 Inv-loop μ-loop
 returns-3 c =
-    let s = c .before .before .before .before in
     let l = c .before .loop in
     let f = l .inv .3 in
-    let out = c .loop-test .left in
-    let many = f .many in
-    let most = l .inv .0 in
-    front-full (s .args .text .now) (s .args .tick) (f .tasks) (l .at) (f .front) (omega arith)
-    (l .inv .2 (omega arith))
+    front-full _ _ (f .tasks) (l .at) (f .front) (omega arith) (l .inv .2 (omega arith))
 
 pub read-tasks-spec : {M : Type 1} → statement M
 read-tasks-spec =
-    tie.close (tie.spec Inv-loop μ-loop loop-holds read-task-requires (λ c. search needs) same-length returns
+    tie.close
+    (tie.spec Inv-loop μ-loop loop-holds (λ c κs. search needs) (λ c. search needs) (λ c. search needs) returns
     (λ c. search needs) (λ c. search needs) (λ c. search needs) (λ c. search needs) (λ c. search needs)
-    (λ c. search needs) part-put-ticks-start part-put-ticks-end put-ticks-requires (λ c. search needs) same-length-2
-    returns-2 loop-less loop-again same-length-3 returns-3)
+    (λ c. search needs) (λ c. let w = s c .pre .1 in let g = h c .loop .inv .1 in search needs)
+    (λ c. let w = s c .pre .1 in let g = h c .loop .inv .1 in search needs) put-ticks-requires (λ c. search needs)
+    (λ c. search needs) returns-2 (λ c. search needs) loop-again (λ c. search needs) returns-3)
