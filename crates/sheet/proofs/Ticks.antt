@@ -1,6 +1,6 @@
 -- Laws of a row in ticks: it fits its numbers, and how it is put into the table.
 use Prim.Native.Nat.{ℕ, _+_, _*_, _-_, _≤_}
-use mathlib.Core.Path.{_≡_, refl, sym, ap, _∙_}
+use mathlib.Core.Path.{_≡_, refl}
 use mathlib.Core.List.{List, [], _∷_, _++_, append-assoc}
 use native.Mathlib.Omega.{arith}
 use native.Mathlib.Nat.{mul-le-mul-left}
@@ -15,7 +15,7 @@ use Rattle.sheet.proofs.Fronts.{ticks-more, length-ticks}
 
 -- ticks are no more than microseconds
 pub up-small : (x d : ℕ) → 1 ≤ d → up x d ≤ x
-up-small x d h = up-le x x h (let m = mul-le-mul-left x h in omega arith)
+up-small x d h = up-le x x h (omega (arith, mul-le-mul-left x h))
 
 -- three stores fill a list of three
 pub filled : (l : List ℕ) (a b c : ℕ) → length l ≡ row-width → set (set (set l 0 a) 1 b) 2 c ≡ a ∷ b ∷ c ∷ []
@@ -27,21 +27,13 @@ filled (x ∷ y ∷ z ∷ w ∷ l) a b c h = absurd (omega arith)
 
 -- one row more behind those of n tasks
 pub row-more : (tick n : ℕ) (ts : List Task) (t : Task) (before table row : List ℕ) → length ts ≡ n →
-    table ≡ ticksOf tick ts ++ drop (row-width * n) before
-    → row ≡ rowOf tick t
-    → putMid (row-width * n) (row-width * n + 3 - row-width * n) table row ≡ ticksOf tick (ts ++ t ∷ [])
-    ++ drop (row-width * (n + 1)) before
+    table ≡ ticksOf tick ts ++ drop (row-width * n) before → row ≡ rowOf tick t →
+    putMid (row-width * n) (row-width * n + 3 - row-width * n) table row
+    ≡ ticksOf tick (ts ++ t ∷ []) ++ drop (row-width * (n + 1)) before
 row-more tick n ts t before table row e f g =
     let k : row-width * n + 3 - row-width * n ≡ 3 = omega arith in
     let m : row-width * n + 3 ≡ row-width * (n + 1) = omega arith in
-    let long : length (ticksOf tick ts) ≡ row-width * n = (let l = length-ticks tick ts in omega arith) in
-    ap (λ (w : ℕ). putMid (row-width * n) w table row) k
-    ∙ ap (λ (o : List ℕ). putMid (row-width * n) 3 o row) f
-    ∙ ap (putMid (row-width * n) 3 (ticksOf tick ts ++ drop (row-width * n) before)) g
-    ∙ behind (ticksOf tick ts) (drop (row-width * n) before) (rowOf tick t) (row-width * n) 3 long
-    ∙ ap (λ (o : List ℕ). (ticksOf tick ts ++ rowOf tick t) ++ o)
-    (drop-drop 3 (row-width * n) before ∙ ap (λ (w : ℕ). drop w before) m)
-    ∙ ap (λ (o : List ℕ). o ++ drop (row-width * (n + 1)) before) (sym (ticks-more tick ts t))
-  where
-    behind : (p r ys : List ℕ) (a k : ℕ) → length p ≡ a → putMid a k (p ++ r) ys ≡ (p ++ ys) ++ drop k r
-    behind p r ys a k h = rw (take-at p r a h, drop-at p r a h, append-assoc)
+    let long : length (ticksOf tick ts) ≡ row-width * n = omega (arith, length-ticks tick ts) in
+    let rest = drop (row-width * n) before in
+    rw (k, f, g, take-at (ticksOf tick ts) rest (row-width * n) long, drop-at (ticksOf tick ts) rest (row-width * n) long)
+    (rw (drop-drop 3 (row-width * n) before, m, ticks-more tick ts t) (simp append-assoc))

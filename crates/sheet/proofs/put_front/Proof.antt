@@ -1,10 +1,9 @@
 -- `put_front` meets its contract. The loop's invariant: the numbers passed stand at the front.
-use mathlib.Core.List.{List}
 use native.Mathlib.Numerals.{add-one}
-use lib.ListN.{set, length-set, length, getD}
+use lib.ListN.{length-set, length}
 use lib.Seq.{paste, paste-zero, paste-suc, take-length}
-use Prim.Native.Nat.{ℕ, _≤_, _+_, _-_}
-use mathlib.Core.Path.{_≡_, refl, sym, ap, _∙_}
+use Prim.Native.Nat.{_≤_, _+_, _-_}
+use mathlib.Core.Path.{_≡_, refl, _∙_}
 use native.Mathlib.Omega.{arith}
 use borrow.Author.Needs.{needs}
 use Rattle.sheet.proofs.put_front.Statement.{statement}
@@ -23,27 +22,18 @@ loop-again : tie.Need-loop-again Inv-loop μ-loop
 loop-again c =
     let a = c .before .before .before .args in
     let l = c .before .before .loop in
-    let p = c .before .before .before .pre in
     let z : 0 + l .i ≡ l .i = omega arith in
-    let e : set (l .out) (l .i) (getD (a .numbers .now) (l .i) 0) ≡ paste (a .out .now) 0 (a .numbers .now) (l .i + 1) =
-    ap (λ (o : List ℕ). set o (l .i) (getD (a .numbers .now) (l .i) 0)) (l .inv .2)
-    ∙ ap (λ (n : ℕ). set (paste (a .out .now) 0 (a .numbers .now) (l .i)) n (getD (a .numbers .now) (l .i) 0)) (sym z)
-    ∙ paste-suc (a .out .now) 0 (a .numbers .now) (l .i) 0 (omega arith) (omega arith)
-    ∙ rw add-one in
-    (search needs, simp length-set (l .inv .1), e)
-
-same-length : tie.Need-same-length Inv-loop μ-loop
-same-length c = c .before .loop .inv .1
+    let e = paste-suc (a .out .now) 0 (a .numbers .now) (l .i) 0 (omega arith) (omega arith) in
+    (search needs, simp length-set (l .inv .1), rw (l .inv .2, add-one, z) (rw z at e))
 
 returns : tie.Need-returns Inv-loop μ-loop
 returns c =
-    let a = c .before .before .args in
-    let l = c .before .loop in
-    let e : l .i ≡ length (a .numbers .now) = omega arith in
-    let z : 0 + length (a .numbers .now) ≡ length (a .numbers .now) = omega arith in
-    l .inv .2 ∙ rw (e, take-length, z)
+    let n = length (c .before .before .args .numbers .now) in
+    let e : c .before .loop .i ≡ n = omega arith in
+    let z : 0 + n ≡ n = omega arith in
+    c .before .loop .inv .2 ∙ rw (e, take-length, z)
 
 pub put-front-spec : {M : Type 1} → statement M
 put-front-spec =
     tie.close (tie.spec Inv-loop μ-loop loop-holds (λ c. search needs) (λ c. search needs) (λ c. search needs)
-    (λ c. search needs) (λ c. search needs) (λ c. search needs) loop-again same-length returns)
+    (λ c. search needs) (λ c. search needs) (λ c. search needs) loop-again (λ c. search needs) returns)

@@ -1,7 +1,5 @@
 -- `put_ticks` meets its contract.
-use lib.ListN.{length-set}
 use Rattle.sheet.proofs.Ticks.{up-small, filled}
-use mathlib.Core.Path.{_∙_}
 use native.Mathlib.Omega.{arith}
 use borrow.Author.Needs.{needs}
 use Prim.Native.Nat.{ℕ, _≤_}
@@ -30,6 +28,5 @@ returns c =
 
 pub put-ticks-spec : {M : Type 1} → statement M
 put-ticks-spec =
-    tie.close
-    (tie.spec (λ c κs. search needs) cast-row (λ c. search needs) (λ c κs. search needs) cast-row-2
+    tie.close (tie.spec (λ c κs. search needs) cast-row (λ c. search needs) (λ c κs. search needs) cast-row-2
     (λ c. search needs) (λ c κs. search needs) cast-row-3 (λ c. search needs) (λ c. search needs) returns)

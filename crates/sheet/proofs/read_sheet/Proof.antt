@@ -1,6 +1,4 @@
 -- `read_sheet` meets its contract: the first line, and the task lines behind it.
-use mathlib.Core.Path.{subst}
-use Rattle.sheet.specs.inside.Read.{ReadsTick}
 use Rattle.sheet.proofs.Fronts.{tick-stuck, front-none}
 use Rattle.sheet.proofs.Answers.{reads-sheet}
 use borrow.Author.Needs.{needs}
@@ -9,27 +7,14 @@ use Rattle.sheet.proofs.read_sheet.Tie as tie
 
 read-tasks-requires : tie.Need-read-tasks-requires
 read-tasks-requires c κs =
-    let s = c .before .before .before .before .before .before .before in (
-      front-none (s .args .text .now) (c .before .before .first2 .given .0 .0)
-          (c .before .before .first2 .given .0 .1 .0 .at)
-          (subst (ReadsTick (s .args .text .now)) (c .before .before .first2 .given .1)
-          (c .before .before .before .before .read-tick .ensures)),
-      s .pre,
-    )
+    let first = rw (c .before .before .first2 .given .1) at (c .before .before .before .before .read-tick .ensures) in
+    (front-none _ _ _ first, c .before .before .before .before .before .before .before .pre)
 
 returns : tie.Need-returns
-returns c =
-    let s = c .before .before .before .before .before .before in
-    tick-stuck (s .args .text .now) (c .before .first .given .0 .0)
-    (subst (ReadsTick (s .args .text .now)) (c .before .first .given .1)
-    (c .before .before .before .read-tick .ensures))
+returns c = tick-stuck _ _ (rw (c .before .first .given .1) at (c .before .before .before .read-tick .ensures))
 
 returns-2 : tie.Need-returns-2
-returns-2 c =
-    let s = c .before .before .before .before .before .before .before .before .before .before in
-    let t = c .before .before .read-tasks in
-    reads-sheet (s .args .text .now) (c .before .before .before .before .before .first2 .given .0 .0)
-    (s .args .table .now) (t .last .1 .1 .1 .0) (t .result) (t .ensures)
+returns-2 c = let t = c .before .before .read-tasks in reads-sheet _ _ _ _ (t .result) (t .ensures)
 
 pub read-sheet-spec : {M : Type 1} → statement M
 read-sheet-spec =

@@ -1,6 +1,6 @@
 -- `read_tasks` meets its contract. The loop's invariant: n tasks have been read and their rows stand at the front of
 -- the table, and behind one of them the text goes on.
-use mathlib.Core.Path.{subst, _≡_, refl, ap, _∙_}
+use mathlib.Core.Path.{subst, _≡_, refl, _∙_}
 use mathlib.Core.List.{List, [], _∷_, _++_}
 use lib.ListN.{drop, length-append, length-drop, length}
 use lib.Seq.{length-take-le}
@@ -9,7 +9,7 @@ use Rattle.counting.proofs.Cases.{by-le}
 use Rattle.tables.specs.Table.{most-rows}
 use Rattle.reading.specs.inside.Piece.{Passed}
 use Rattle.sheet.specs.Sheet.{Task, ticksOf}
-use Rattle.sheet.specs.inside.Read.{taskPiece, taskOf, ReadsTask, Filled}
+use Rattle.sheet.specs.inside.Read.{taskPiece, taskOf, Filled}
 use Rattle.sheet.proofs.Fronts.{front-more, front-stuck, front-full}
 use Rattle.sheet.proofs.Ticks.{row-more}
 use Prim.Native.Nat.{ℕ, _≤_, _<_, _+_, _*_, _-_}
@@ -125,9 +125,8 @@ returns-3 c =
 
 pub read-tasks-spec : {M : Type 1} → statement M
 read-tasks-spec =
-    tie.close
-    (tie.spec Inv-loop μ-loop loop-holds (λ c κs. search needs) (λ c. search needs) (λ c. search needs) returns
-    (λ c. search needs) (λ c. search needs) (λ c. search needs) (λ c. search needs) (λ c. search needs)
+    tie.close (tie.spec Inv-loop μ-loop loop-holds (λ c κs. search needs) (λ c. search needs) (λ c. search needs)
+    returns (λ c. search needs) (λ c. search needs) (λ c. search needs) (λ c. search needs) (λ c. search needs)
     (λ c. search needs) (λ c. let w = s c .pre .1 in let g = h c .loop .inv .1 in search needs)
     (λ c. let w = s c .pre .1 in let g = h c .loop .inv .1 in search needs) put-ticks-requires (λ c. search needs)
     (λ c. search needs) returns-2 (λ c. search needs) loop-again (λ c. search needs) returns-3)
