@@ -10,17 +10,13 @@ use Rattle.tables.specs.Planned.{planned-width}
 use Rattle.tables.specs.Refusal.{Result}
 use Rattle.tables.specs.Checks.{Rows}
 use Rattle.tables.proofs.Clear.{rows-of-shape}
-use Rattle.decimal.specs.Decimal.{decimal}
 use Rattle.decimal.proofs.Decimal.{few}
 use Rattle.printing.specs.Printed.{rowLines, planText, longest-text}
 use Rattle.printing.specs.Answers.{FitAnswer, PrintAnswer}
-use Rattle.printing.proofs.Printed.{lineOf, length-planLine, length-rowLine, length-text, never-empty}
+use Rattle.printing.proofs.Printed.{ten-digits, length-planLine, length-rowLine, length-text, never-empty}
 use Rattle.printing.proofs.Answers.{fit-given, fit-of-print}
 
 module _ (planned : List ℕ) (small : (i : ℕ) → getD planned i 0 < 2 ^ 32) where
-  ten-digits : (i : ℕ) → length (decimal (getD planned i 0)) ≤ 10
-  ten-digits i = let h = small i in few 9 (getD planned i 0) (omega arith)
-
   -- 60 bytes a row, and one more from row 10 on, whose number has a second digit
   rows-most : (n : ℕ) → n ≤ most-rows → length (rowLines planned n) ≤ 60 * n + (n - 10)
   unfolding rowLines
@@ -28,34 +24,23 @@ module _ (planned : List ℕ) (small : (i : ℕ) → getD planned i 0 < 2 ^ 32) 
   rows-most (suc n) h =
       let at = planned-width * n in
       let r = rows-most n (omega arith) in
-      let e = length-append (rowLines planned n) (lineOf planned n) in
-      let l = length-rowLine n (getD planned at 0) (getD planned (at + 1) 0) (getD planned (at + 2) 0) in
-      let a = ten-digits at in
-      let b = ten-digits (at + 1) in
-      let c = ten-digits (at + 2) in
-      by-le n 9
-      (λ q. let f = few 0 n (omega arith) in omega arith)
-      (λ q. let f = few 1 n (omega arith) in omega arith)
+      let a = ten-digits (getD planned at 0) (small at) in
+      let b = ten-digits (getD planned (at + 1) 0) (small (at + 1)) in
+      let c = ten-digits (getD planned (at + 2) 0) (small (at + 2)) in
+      simp (length-append, length-rowLine)
+      (by-le n 9 (λ q. omega (arith, few 0 n (omega arith))) (λ q. omega (arith, few 1 n (omega arith))))
 
   pub text-most : Rows planned-width planned → length (planText planned) ≤ longest-text
   text-most r =
-      let f = r .few in
-      omega (
-        arith,
-        length-text planned (r .n) (r .whole),
-        length-planLine (r .n),
-        few 1 (r .n) (omega arith),
-        rows-most
-            (r .n) (r .few),
-      )
+      simp (length-text planned (r .n) (r .whole), length-planLine)
+      (omega (arith, few 1 (r .n) (omega arith), rows-most (r .n) (r .few)))
 
   -- "a printed plan is never empty", and its number of bytes has this limit
   pub fit-most : {len : ℕ} {r : Result} → FitAnswer planned len r → r .number ≡ 0 →
       (1 ≤ r .value) × (r .value ≤ longest-text)
   fit-most a z =
       let g = fit-given planned [] a z in
-      let v = g .3 in
-      let m = text-most (rows-of-shape planned (g .0)) in (omega (arith, never-empty planned), omega arith)
+      (omega (arith, never-empty planned), omega (arith, text-most (rows-of-shape planned (g .0))))
 
   pub print-most : {out : List ℕ} {r : Result} → PrintAnswer planned out r → r .number ≡ 0 →
       (1 ≤ r .value) × (r .value ≤ longest-text)

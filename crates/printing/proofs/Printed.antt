@@ -1,21 +1,26 @@
 -- Laws of the printed plan: how long its lines are, one row more, and that it is never empty.
-use Prim.Native.Nat.{ℕ, zero, suc, _+_, _*_, _/_, _≤_, _<_}
-use mathlib.Core.Path.{_≡_, refl, ap, _∙_}
+use Prim.Native.Nat.{ℕ, zero, suc, _+_, _*_, _/_, _^_, _≤_, _<_}
+use mathlib.Core.Path.{_≡_, refl}
 use mathlib.Core.List.{List, [], _++_}
 use native.Mathlib.Omega.{arith}
 use native.Mathlib.Numerals.{add-one}
 use lib.ListN.{length, getD, length-append}
 use Rattle.counting.proofs.Cases.{by-eq}
 use Rattle.decimal.specs.Decimal.{decimal}
+use Rattle.decimal.proofs.Decimal.{few}
 use Rattle.tables.specs.Planned.{planned-width}
 use Rattle.printing.specs.Printed.{planLine, rowLine, rowLines, planText, refusedLine}
+
+-- a 32-bit number has ten digits or fewer
+pub ten-digits : (x : ℕ) → x < 2 ^ 32 → length (decimal x) ≤ 10
+ten-digits x h = few 9 x (omega arith)
 
 pub length-planLine : (n : ℕ) → length (planLine n) ≡ length (decimal n) + 6
 unfolding planLine
 length-planLine n = simp length-append (omega arith)
 
-pub length-rowLine : (i r l s : ℕ) → length (rowLine i r l s) ≡ length (decimal i) + length (decimal r)
-    + length (decimal l) + length (decimal s) + 29
+pub length-rowLine : (i r l s : ℕ) →
+    length (rowLine i r l s) ≡ length (decimal i) + length (decimal r) + length (decimal l) + length (decimal s) + 29
 unfolding rowLine
 length-rowLine i r l s = simp length-append (omega arith)
 
@@ -44,9 +49,7 @@ module _ (planned : List ℕ) where
   rows-fit zero i h = absurd (omega arith)
   rows-fit (suc n) i h =
       let e = length-append (rowLines planned n) (lineOf n) in
-      by-eq i n
-      (λ q. rw q (omega arith))
-      (λ q. let r = rows-fit n i (omega arith) in omega arith)
+      by-eq i n (λ q. rw q (omega arith)) (λ q. omega (arith, rows-fit n i (omega arith)))
 
   pub text-whole : (n : ℕ) → length planned ≡ planned-width * n → planText planned ≡ planLine n ++ rowLines planned n
   unfolding planText
@@ -54,11 +57,9 @@ module _ (planned : List ℕ) where
 
   pub length-text : (n : ℕ) → length planned ≡ planned-width * n →
       length (planText planned) ≡ length (planLine n) + length (rowLines planned n)
-  length-text n e = ap length (text-whole n e) ∙ length-append (planLine n) (rowLines planned n)
+  length-text n e = rw (text-whole n e, length-append)
 
   -- "a printed plan is never empty"
   pub never-empty : 1 ≤ length (planText planned)
   unfolding planText
-  never-empty =
-      let n = length planned / planned-width in
-      omega (arith, length-append (planLine n) (rowLines planned n), length-planLine n)
+  never-empty = simp (length-append, length-planLine) (omega arith)

@@ -52,8 +52,7 @@ returns c =
 
 pub plan-bytes-spec : {M : Type 1} → statement M
 plan-bytes-spec =
-    tie.close
-    (tie.spec Inv-loop μ-loop (λ c. search needs) (λ c κs. search needs) add-bytes loop-holds
+    tie.close (tie.spec Inv-loop μ-loop (λ c. search needs) (λ c κs. search needs) add-bytes loop-holds
     (λ c. search needs) (λ c. search needs) (λ c. search needs) (λ c. search needs) (λ c. search needs)
     (λ c. search needs) (λ c. search needs) (λ c. search needs) (λ c. search needs) (λ c. search needs)
     (λ c κs. search needs) (λ c. search needs) (λ c. search needs) (λ c. search needs) loop-again returns)

@@ -86,8 +86,7 @@ returns c =
 
 pub put-plan-spec : {M : Type 1} → statement M
 put-plan-spec =
-    tie.close
-    (tie.spec Inv-loop μ-loop (λ c. search needs) put-head-requires loop-holds (λ c. search needs)
+    tie.close (tie.spec Inv-loop μ-loop (λ c. search needs) put-head-requires loop-holds (λ c. search needs)
     (λ c. search needs) (λ c. search needs) (λ c. search needs) (λ c. search needs) (λ c. search needs)
     (λ c. search needs) (λ c. search needs) (λ c. search needs) (λ c. search needs) put-row-requires
     (λ c. search needs) (λ c. search needs) loop-again same-length returns)

@@ -1,101 +1,50 @@
 -- `put_row` meets its contract: word by word, each behind the one before.
-use mathlib.Core.List.{_++_}
-use Rattle.decimal.specs.Word.{word}
 use Rattle.decimal.specs.Decimal.{decimal}
-use Rattle.decimal.proofs.Placed.{put-behind, fits-front}
+use Rattle.decimal.proofs.Placed.{put-behind}
 use Rattle.printing.specs.Printed.{rowLine}
 use Rattle.printing.proofs.Printed.{length-rowLine}
 use Prim.Native.Nat.{_≤_, _+_}
 use native.Mathlib.Omega.{arith}
-use lib.ListN.{length}
+use lib.ListN.{length, length-append}
 use borrow.Author.Needs.{needs}
 use Rattle.printing.proofs.put_row.Statement.{statement}
 use Rattle.printing.proofs.put_row.Tie as tie
 
-put-field-requires : tie.Need-put-field-requires
-put-field-requires c κs =
-    let s = c .before .before .before in
-    omega (arith, s .pre, length-rowLine (s .args .i) (s .args .rank) (s .args .len) (s .args .response))
+-- the places behind the fields: that of the start, and of each field that of the one before it
+abbrev start : tie.After-put-field → tie.Start
+start c = c .before .before .before .before
 
-put-field-requires-2 : tie.Need-put-field-requires-2
-put-field-requires-2 c κs =
-    let s = c .before .before .before .before .before .before .before .before in
-    omega (
-      arith,
-      s .pre,
-      c .before .before .before .before .put-field .ensures .behind,
-      c .before .before .before .before .put-field .kept .0,
-      length-rowLine (s .args .i) (s .args .rank) (s .args .len)
-          (s .args .response),
-    )
+abbrev first : tie.After-put-field2 → tie.After-put-field
+first c = c .before .before .before .before .before
 
-put-field-requires-3 : tie.Need-put-field-requires-3
-put-field-requires-3 c κs =
-    let s = c .before .before .before .before .before .before .before .before .before .before .before .before .before in
-    omega (
-      arith,
-      s .pre,
-      c .before .before .before .before .before .before .before .before .before .put-field .ensures .behind,
-      c .before .before .before .before .before .before .before .before .before .put-field .kept .0,
-      c .before .before .before .before .put-field2 .ensures .behind,
-      c .before .before .before .before .put-field2 .kept .0,
-      length-rowLine (s .args .i) (s .args .rank) (s .args .len)
-          (s .args .response),
-    )
+abbrev second : tie.After-put-field3 → tie.After-put-field2
+second c = c .before .before .before .before .before
 
-put-field-requires-4 : tie.Need-put-field-requires-4
-put-field-requires-4 c κs =
-    let s = c .before .before .before .before .before .before .before .before .before .before .before .before .before .before .before .before .before .before in
-    omega (
-      arith,
-      s .pre,
-      c .before .before .before .before .before .before .before .before .before .before .before .before .before .before .put-field .ensures .behind,
-      c .before .before .before .before .before .before .before .before .before .before .before .before .before .before .put-field .kept .0,
-      c .before .before .before .before .before .before .before .before .before .put-field2 .ensures .behind,
-      c .before .before .before .before .before .before .before .before .before .put-field2 .kept .0,
-      c .before .before .before .before .put-field3 .ensures .behind,
-      c .before .before .before .before .put-field3 .kept .0,
-      length-rowLine (s .args .i) (s .args .rank) (s .args .len) (s .args .response),
-    )
+abbrev third : tie.After-put-field4 → tie.After-put-field3
+third c = c .before .before .before .before .before
 
-put-word-requires : tie.Need-put-word-requires
-put-word-requires c κs =
-    let s = c .before .before .before .before .before .before .before .before .before .before .before .before .before .before .before .before .before .before .before .before .before .before .before in
-    omega (
-      arith,
-      s .pre,
-      c .before .before .before .before .before .before .before .before .before .before .before .before .before .before .before .before .before .before .before .put-field .ensures .behind,
-      c .before .before .before .before .before .before .before .before .before .before .before .before .before .before .before .before .before .before .before .put-field .kept .0,
-      c .before .before .before .before .before .before .before .before .before .before .before .before .before .before .put-field2 .ensures .behind,
-      c .before .before .before .before .before .before .before .before .before .before .before .before .before .before .put-field2 .kept .0,
-      c .before .before .before .before .before .before .before .before .before .put-field3 .ensures .behind,
-      c .before .before .before .before .before .before .before .before .before .put-field3 .kept .0,
-      c .before .before .before .before .put-field4 .ensures .behind,
-      c .before .before .before .before .put-field4 .kept .0,
-      length-rowLine (s .args .i) (s .args .rank) (s .args .len) (s .args .response),
-    )
+module _ (s : tie.Start) where
+  room : s .args .at + length (decimal (s .args .i)) + length (decimal (s .args .rank)) + length (decimal (s .args .len))
+      + length (decimal (s .args .response)) + 29 ≤ length (s .args .buf .now)
+  room = omega (arith, s .pre, length-rowLine (s .args .i) (s .args .rank) (s .args .len) (s .args .response))
 
 returns : tie.Need-returns
 unfolding rowLine
 returns c =
-    let s = c .before .before .before .before .before .before .before .before .before .before .before .before .before .before .before .before .before .before .before .before .before .before .before .before .before .before in
-    let t1 = word "row " ++ decimal (s .args .i) in
-    let t2 = word " rank " ++ decimal (s .args .rank) in
-    let t3 = word " length " ++ decimal (s .args .len) in
-    let t4 = word " response " ++ decimal (s .args .response) in
-    let f4 : s .args .at + length (t1 ++ t2 ++ t3 ++ t4) ≤ length (s .args .buf .now) =
-    fits-front (s .args .at) (t1 ++ t2 ++ t3 ++ t4) (word "\n") (s .pre) in
-    let f3 : s .args .at + length (t1 ++ t2 ++ t3) ≤ length (s .args .buf .now) =
-    fits-front (s .args .at) (t1 ++ t2 ++ t3) t4 f4 in
-    let f2 : s .args .at + length (t1 ++ t2) ≤ length (s .args .buf .now) = fits-front (s .args .at) (t1 ++ t2) t3 f3 in
-    let f1 : s .args .at + length t1 ≤ length (s .args .buf .now) = fits-front (s .args .at) t1 t2 f2 in
-    put-behind f4 (put-behind f3 (put-behind f2
-    (put-behind f1
-    (c .before .before .before .before .before .before .before .before .before .before .before .before .before .before .before .before .before .before .before .before .before .before .put-field .ensures) (c .before .before .before .before .before .before .before .before .before .before .before .before .before .before .before .before .before .put-field2 .ensures)) (c .before .before .before .before .before .before .before .before .before .before .before .before .put-field3 .ensures)) (c .before .before .before .before .before .before .before .put-field4 .ensures)) (c .before .before .put-word .ensures)
+    let d = c .before .before .before .before .before .before .before in
+    let b = third d in
+    let a = first (second b) in
+    let s = start a in
+    let p1 = put-behind (simp length-append (omega (arith, room s))) (a .put-field .ensures) (second b .put-field2 .ensures) in
+    let p2 = put-behind (simp length-append (omega (arith, room s))) p1 (b .put-field3 .ensures) in
+    let p3 = put-behind (simp length-append (omega (arith, room s))) p2 (d .put-field4 .ensures) in
+    put-behind (simp length-append (omega (arith, room s))) p3 (c .before .before .put-word .ensures)
 
 pub put-row-spec : {M : Type 1} → statement M
 put-row-spec =
-    tie.close
-    (tie.spec (λ c. search needs) put-field-requires (λ c. search needs) put-field-requires-2
-    (λ c. search needs) put-field-requires-3 (λ c. search needs) put-field-requires-4 (λ c. search needs)
-    put-word-requires (λ c. search needs) returns)
+    tie.close (tie.spec (λ c. search needs) (λ c κs. omega (arith, room (c .before .before .before)))
+    (λ c. search needs) (λ c κs. omega (arith, room (start (c .before .before .before .before)))) (λ c. search needs)
+    (λ c κs. omega (arith, room (start (first (c .before .before .before .before))))) (λ c. search needs)
+    (λ c κs. omega (arith, room (start (first (second (c .before .before .before .before)))))) (λ c. search needs)
+    (λ c κs. omega (arith, room (start (first (second (third (c .before .before .before .before)))))))
+    (λ c. search needs) returns)
