@@ -1,5 +1,5 @@
 -- Laws of a text in a buffer: its length, one text behind another, and that what was put is settled.
-use Prim.Native.Nat.{ℕ, suc, _+_, _≤_, _<_}
+use Prim.Native.Nat.{ℕ, suc, _+_, _≤_}
 use mathlib.Core.Path.{_≡_, sym, ap, _∙_}
 use mathlib.Core.List.{List, [], _∷_, _++_, append-assoc}
 use native.Mathlib.Omega.{arith}
@@ -7,10 +7,6 @@ use native.Mathlib.Numerals.{add-one}
 use lib.ListN.{length, take, drop, set, length-append, length-drop}
 use lib.Seq.{length-take-le, paste-zero, take-append-le, take-take, take-at, drop-at, drop-drop, set-split}
 use Rattle.decimal.specs.inside.Placed.{placed, Put}
-
--- one byte
-pub placed-byte : (b : List ℕ) (at v : ℕ) → at < length b → set b at v ≡ placed b at (v ∷ [])
-placed-byte b at v h = set-split b at v h ∙ rw (append-assoc, add-one)
 
 module _ (b : List ℕ) (at : ℕ) (t : List ℕ) (fits : at + length t ≤ length b) where
   front-length : length (take at b ++ t) ≡ at + length t
@@ -67,10 +63,6 @@ put-behind {b} {t} {c} {u} {d} {at} {m} {n} fits p q =
 -- nothing put
 pub put-none : (b : List ℕ) (at : ℕ) → Put b at [] b at
 put-none b at = record { behind = omega arith; whole = paste-zero b at [] }
-
--- what fits with more behind it
-pub fits-front : (at : ℕ) (t u : List ℕ) {n : ℕ} → at + length (t ++ u) ≤ n → at + length t ≤ n
-fits-front at t u h = omega (arith, length-append t u)
 
 -- any two buffers and places are equal
 pub put-unique : {b t c d : List ℕ} {at m n : ℕ} → Put b at t c m → Put b at t d n → (c ≡ d) × (m ≡ n)

@@ -9,7 +9,7 @@ use Rattle.counting.proofs.Cases.{by-eq}
 use Rattle.decimal.specs.Decimal.{decimal}
 use Rattle.decimal.proofs.Decimal.{few}
 use Rattle.tables.specs.Planned.{planned-width}
-use Rattle.printing.specs.Printed.{planLine, rowLine, rowLines, planText, refusedLine}
+use Rattle.printing.specs.Printed.{planLine, rowLine, rowLines, planText}
 
 -- a 32-bit number has ten digits or fewer
 pub ten-digits : (x : ℕ) → x < 2 ^ 32 → length (decimal x) ≤ 10
@@ -23,10 +23,6 @@ pub length-rowLine : (i r l s : ℕ) →
     length (rowLine i r l s) ≡ length (decimal i) + length (decimal r) + length (decimal l) + length (decimal s) + 29
 unfolding rowLine
 length-rowLine i r l s = simp length-append (omega arith)
-
-pub length-refusedLine : (n p : ℕ) → length (refusedLine n p) ≡ length (decimal n) + length (decimal p) + 10
-unfolding refusedLine
-length-refusedLine n p = simp length-append (omega arith)
 
 module _ (planned : List ℕ) where
   -- the line of row i

@@ -23,22 +23,25 @@ second c = c .before .before .before .before .before
 abbrev third : tie.After-put-field4 → tie.After-put-field3
 third c = c .before .before .before .before .before
 
-module _ (s : tie.Start) where
-  room : s .args .at + length (decimal (s .args .i)) + length (decimal (s .args .rank)) + length (decimal (s .args .len))
-      + length (decimal (s .args .response)) + 29 ≤ length (s .args .buf .now)
-  room = omega (arith, s .pre, length-rowLine (s .args .i) (s .args .rank) (s .args .len) (s .args .response))
+-- the line's length in the digits of its four numbers, and room for it
+room : (s : tie.Start) →
+    s .args .at + length (decimal (s .args .i)) + length (decimal (s .args .rank)) + length (decimal (s .args .len))
+    + length (decimal (s .args .response)) + 29 ≤ length (s .args .buf .now)
+room s = omega (arith, s .pre, length-rowLine (s .args .i) (s .args .rank) (s .args .len) (s .args .response))
 
 returns : tie.Need-returns
 unfolding rowLine
 returns c =
     let d = c .before .before .before .before .before .before .before in
-    let b = third d in
-    let a = first (second b) in
-    let s = start a in
-    let p1 = put-behind (simp length-append (omega (arith, room s))) (a .put-field .ensures) (second b .put-field2 .ensures) in
-    let p2 = put-behind (simp length-append (omega (arith, room s))) p1 (b .put-field3 .ensures) in
-    let p3 = put-behind (simp length-append (omega (arith, room s))) p2 (d .put-field4 .ensures) in
-    put-behind (simp length-append (omega (arith, room s))) p3 (c .before .before .put-word .ensures)
+    let b = second (third d) in
+    let r = room (start (first b)) in
+    put-behind (simp length-append (omega arith))
+    (put-behind (simp length-append (omega arith))
+    (put-behind (simp length-append (omega arith))
+    (put-behind (simp length-append (omega arith)) (first b .put-field .ensures) (b .put-field2 .ensures))
+    (third d .put-field3 .ensures))
+    (d .put-field4 .ensures))
+    (c .before .before .put-word .ensures)
 
 pub put-row-spec : {M : Type 1} → statement M
 put-row-spec =
