@@ -5,13 +5,13 @@ use mathlib.Core.Path.{_≡_, refl, sym, ap, _∙_}
 use mathlib.Core.Logic.{inl, inr, ⊎-elim}
 use mathlib.Core.List.{List, [], _∷_}
 use native.Mathlib.Omega.{arith}
-use lib.ListN.{length, take, drop}
-use lib.Seq.{take-at}
+use lib.ListN.{length, take}
+use lib.Seq.{take-append-seam}
 use Rattle.counting.proofs.Cases.{by-le, by-eq}
-use Rattle.tables.specs.Refusal.{Clear, Result}
-use Rattle.tables.specs.Checks.{planned-shape, room}
+use Rattle.tables.specs.Refusal.{Check, Clear, Result, Granted, Answered}
+use Rattle.tables.specs.Checks.{planned-shape}
 use Rattle.printing.specs.Printed.{planText}
-use Rattle.tables.proofs.Answered.{answered-unique, shape-place, room-place}
+use Rattle.tables.proofs.Answered.{answered-unique, granted, shape-place, room-place}
 use Rattle.printing.proofs.Printed.{never-empty}
 use Rattle.printing.specs.Answers.{room-in, FitGiven, FitAnswer, PrintAnswer, PrintGiven, PrintFront}
 
@@ -19,57 +19,54 @@ use Rattle.printing.specs.Answers.{room-in, FitGiven, FitAnswer, PrintAn
 abbrev pub leaving : List ℕ → Result → Result
 leaving out r = record { number = r .number; place = r .place; value = r .value; out = out }
 
+-- an answer tells of one with another output lent, where what is given there follows
+leave : (cs : List Check) (G H : ℕ → List ℕ → Type 0) (out l : List ℕ) (r : Result) → (Granted G r → H (r .value) l) →
+    Answered cs G out r → Answered cs H l (leaving l r)
+leave [] G H out l r f a = record { number = a .number; place = a .place; given = f a }
+leave (c ∷ cs) G H out l r f a =
+    ⊎-elim
+    (λ x. inl (record { number = x .number; place = x .place; value = x .value; unwritten = refl }))
+    (λ x. inr (x .0, leave cs G H out l r f (x .1)))
+    a
+
+-- a refusal has the value 0
+refused-value : (cs : List Check) (G : ℕ → List ℕ → Type 0) (out : List ℕ) (r : Result) → (r .number ≡ 0 → ⊥) →
+    Answered cs G out r → r .value ≡ 0
+refused-value [] G out r n a = absurd (n (a .number))
+refused-value (c ∷ cs) G out r n a = ⊎-elim (λ x. x .value) (λ x. refused-value cs G out r n (x .1)) a
+
+-- the checks of both
+abbrev checks : List ℕ → ℕ → List Check
+checks planned len = planned-shape planned ∷ room-in (length (planText planned)) len ∷ []
+
 module _ (planned out : List ℕ) where
   -- what fit says is given
   pub fit-given : {len : ℕ} {r : Result} → FitAnswer planned len r → r .number ≡ 0 →
       Clear (planned-shape planned) × (length (planText planned) ≤ len) × (r .place ≡ 0)
       × (r .value ≡ length (planText planned))
   fit-given {len} {r} a z =
-      ⊎-elim
-      (λ x. absurd (let e = x .number in omega arith))
-      (λ x. ⊎-elim
-      (λ y. absurd (let e = y .number in omega arith))
-      (λ y. (
-        x .0,
-        by-le (length (planText planned)) len (λ h. h) (λ h. absurd (y .0 0 (refl, h))),
-        y .1 .place,
-        y .1 .given .many,
-      ))
-      (x .1))
-      a
+      let g = granted (checks planned len) (FitGiven planned) [] r refl z a in (
+        g .0 .0,
+        by-le (length (planText planned)) len (λ h. h) (λ h. absurd (g .0 .1 .0 0 (refl, h))),
+        g .1 .place,
+        g .1 .given .many,
+      )
 
   -- what fit refuses is refused by print, and nothing is written
   pub print-refused : {r : Result} → FitAnswer planned (length out) r → (r .number ≡ 0 → ⊥) →
       PrintAnswer planned out (leaving out r)
   print-refused {r} a n =
-      ⊎-elim
-      (λ x. inl (record { number = x .number; place = x .place; value = x .value; unwritten = refl }))
-      (λ x. ⊎-elim
-      (λ y. inr (x .0, inl (record { number = y .number; place = y .place; value = y .value; unwritten = refl })))
-      (λ y. absurd (n (y .1 .number)))
-      (x .1))
-      a
+      leave (checks planned (length out)) (FitGiven planned) (PrintGiven planned out) [] out r
+      (λ g. absurd (n (g .number))) a
 
   -- what print answers is fit's answer
   pub fit-of-print : {r : Result} → PrintAnswer planned out r → FitAnswer planned (length out) (leaving [] r)
   fit-of-print {r} a =
-      ⊎-elim
-      (λ x. inl (record { number = x .number; place = x .place; value = x .value; unwritten = refl }))
-      (λ x. ⊎-elim
-      (λ y. inr (x .0, inl (record { number = y .number; place = y .place; value = y .value; unwritten = refl })))
-      (λ y. inr (
-        x .0,
-        inr (
-          y .0,
-          record {
-            number = y .1 .number;
-            place = y .1 .place;
-            given = record { many = y .1 .given .many; unlent = refl };
-          },
-        ),
-      ))
-      (x .1))
-      a
+      leave (checks planned (length out)) (PrintGiven planned out) (FitGiven planned) out [] r
+      (λ g. record { many = g .given .many; unlent = refl }) a
+
+  none : {r : Result} → PrintAnswer planned out r → (r .number ≡ 0 → ⊥) → r .value ≡ 0
+  none {r} a n = refused-value (checks planned (length out)) (PrintGiven planned out) out r n a
 
   -- the front that is as long as the value
   pub front : {r : Result} → PrintAnswer planned out r → PrintFront planned (length out) (take (r .value) (r .out))
@@ -78,60 +75,29 @@ module _ (planned out : List ℕ) where
         answer = leaving [] r;
         fit = fit-of-print a;
         given = λ z.
-            ⊎-elim
-            (λ x. absurd (let e = x .number in omega arith))
-            (λ x. ⊎-elim
-            (λ y. absurd (let e = y .number in omega arith))
-            (λ y.
-            let g = y .1 .given in
-            ap (take (r .value)) (g .whole)
-            ∙ take-at (planText planned) (drop (length (planText planned)) out) (r .value) (sym (g .many)))
-            (x .1))
-            a;
-        refused = λ n.
-            ⊎-elim
-            (λ x. ap (λ (k : ℕ). take k (r .out)) (x .value))
-            (λ x. ⊎-elim
-            (λ y. ap (λ (k : ℕ). take k (r .out)) (y .value))
-            (λ y. absurd (n (y .1 .number)))
-            (x .1))
-            a;
+            let g = granted (checks planned (length out)) (PrintGiven planned out) out r refl z a .1 .given in
+            rw (g .whole, g .many, take-append-seam);
+        refused = λ n. rw (none a n);
       }
 
   -- and it is no longer than the buffer
   pub front-within : {r : Result} → PrintAnswer planned out r → length (r .out) ≡ length out →
       r .value ≤ length (r .out)
   front-within {r} a e =
-      ⊎-elim
-      (λ x. let v = x .value in omega arith)
-      (λ x. ⊎-elim
-      (λ y. let v = y .value in omega arith)
-      (λ y.
-      let v = y .1 .given .many in
-      by-le (length (planText planned)) (length out) (λ h. omega arith) (λ h. absurd (y .0 0 (refl, h))))
-      (x .1))
-      a
+      by-eq (r .number) 0
+      (λ z. let g = fit-given (fit-of-print a) z in omega arith)
+      (λ n. omega (arith, none a n))
 
 -- any two answers are equal
 pub fit-unique : (planned : List ℕ) (len : ℕ) (r s : Result) → FitAnswer planned len r → FitAnswer planned len s → r ≡ s
 fit-unique planned len r s =
-    answered-unique
-    (planned-shape planned ∷ room-in (length (planText planned)) len ∷ [])
-    (FitGiven planned)
-    []
-    r
-    s
+    answered-unique (checks planned len) (FitGiven planned) [] r s
     (shape-place planned, ((λ a b h g. h .0 ∙ sym (g .0)), tt))
     (λ clear v w l m g h. (g .many ∙ sym (h .many), g .unlent ∙ sym (h .unlent)))
 
 pub print-unique : (planned out : List ℕ) (r s : Result) → PrintAnswer planned out r → PrintAnswer planned out s → r ≡ s
 print-unique planned out r s =
-    answered-unique
-    (planned-shape planned ∷ room (length (planText planned)) out ∷ [])
-    (PrintGiven planned out)
-    out
-    r
-    s
+    answered-unique (checks planned (length out)) (PrintGiven planned out) out r s
     (shape-place planned, (room-place (length (planText planned)) out, tt))
     (λ clear v w l m g h. (g .many ∙ sym (h .many), g .whole ∙ sym (h .whole)))
 
