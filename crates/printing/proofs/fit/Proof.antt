@@ -19,30 +19,24 @@ clear-shape c =
 
 returns : tie.Need-returns
 returns c =
-    let r = c .before .rows .ensures in
+    let none = c .before .rows .ensures .none (c .if1 .taken) in
     inl (record {
       number = refl;
-      place = (refl, λ w. r .none (c .if1 .taken) (w .n) (w .some) (w .few) (w .whole));
+      place = (refl, λ w. none (w .n) (w .some) (w .few) (w .whole));
       value = refl;
       unwritten = refl;
     })
 
 plan-bytes-requires : tie.Need-plan-bytes-requires
-plan-bytes-requires c κs =
-    let r = c .before .rows .ensures in (r .few, r .whole (omega arith))
+plan-bytes-requires c κs = let r = c .before .rows .ensures in (r .few, r .whole (omega arith))
 
 returns-2 : tie.Need-returns-2
 returns-2 c =
     let b = c .before .plan-bytes .ensures .0 in
     inr (
       clear-shape (c .before .before),
-      inl
-          (record { number = refl; place = (refl, omega arith); value = refl; unwritten = refl }),
+      inl (record { number = refl; place = (refl, omega arith); value = refl; unwritten = refl }),
     )
-
-cast-t7 : tie.Need-cast-t7
-cast-t7 c =
-    let b = c .before .plan-bytes .ensures .1 in omega arith
 
 returns-3 : tie.Need-returns-3
 returns-3 c =
@@ -50,10 +44,12 @@ returns-3 c =
     inr (
       clear-shape (c .before .before),
       inr (
-        λ place h. let q = h .1 in omega arith,
+        λ place h. omega (arith, h .1),
         record { number = refl; place = refl; given = record { many = b; unlent = refl } },
       ),
     )
 
 pub fit-spec : {M : Type 1} → statement M
-fit-spec = tie.close (tie.spec (λ c κs. search needs) returns plan-bytes-requires returns-2 cast-t7 returns-3)
+fit-spec =
+    tie.close (tie.spec (λ c κs. search needs) returns plan-bytes-requires returns-2
+    (λ c. omega (arith, c .before .plan-bytes .ensures .1)) returns-3)

@@ -2,9 +2,9 @@
 use lib.ListN.{length-append, length}
 use Rattle.decimal.proofs.Decimal.{few}
 use Rattle.printing.specs.Printed.{planLine, rowLines}
-use Rattle.printing.proofs.Printed.{lineOf, length-planLine, rows-none, rows-more, length-text}
+use Rattle.printing.proofs.Printed.{length-planLine, rows-none, rows-more, length-text}
 use Prim.Native.Nat.{_≤_, _+_, _*_, _-_}
-use mathlib.Core.Path.{_≡_, sym, ap, _∙_}
+use mathlib.Core.Path.{_≡_}
 use native.Mathlib.Omega.{arith}
 use borrow.Author.Needs.{needs}
 use Rattle.printing.proofs.plan_bytes.Statement.{statement}
@@ -17,42 +17,28 @@ Inv-loop planned n bytes₀ i₀ bytes i =
 abbrev μ-loop : tie.MeasureT-loop
 μ-loop planned n bytes₀ i₀ bytes i = n - i
 
-add-bytes : tie.Need-add-bytes Inv-loop μ-loop
-add-bytes c =
-    let e = c .width .ensures in omega (arith, few 9 (c .before .before .args .n) (omega arith))
-
 loop-holds : tie.Need-loop-holds Inv-loop μ-loop
 loop-holds c =
     let n = c .before .before .args .n in
-    let e = c .width .ensures in (
-      omega arith,
-      omega
-          (arith, length-planLine n, ap length (rows-none (c .before .before .args .planned .now))),
-      omega
-          (arith, few 9 n (omega arith)),
-    )
+    (omega arith, rw (rows-none, length-planLine) (omega arith), omega (arith, few 9 n (omega arith)))
 
 loop-again : tie.Need-loop-again Inv-loop μ-loop
 loop-again c =
     let l = c .before .before .before .before .before .loop in
-    let a = c .before .before .before .before .before .before .before .before .args in
     let b = c .row-bytes .ensures in
-    let e = ap length (rows-more (a .planned .now) (l .i)) ∙ length-append (rowLines (a .planned .now) (l .i))
-    (lineOf (a .planned .now) (l .i)) in
-    (search needs, omega arith, omega arith)
+    (search needs, rw (rows-more _ (l .i), length-append) (omega arith), omega arith)
 
 returns : tie.Need-returns Inv-loop μ-loop
 returns c =
     let l = c .before .loop in
     let a = c .before .before .before .before .args in
-    let e : l .i ≡ a .n = omega arith in (
-      l .inv .1 ∙ rw e (sym (length-text (a .planned .now) (a .n) (omega arith))),
-      omega arith,
-    )
+    let e : l .i ≡ a .n = omega arith in
+    (rw (length-text (a .planned .now) (a .n) (omega arith)) (rw e at (l .inv .1)), omega arith)
 
 pub plan-bytes-spec : {M : Type 1} → statement M
 plan-bytes-spec =
-    tie.close (tie.spec Inv-loop μ-loop (λ c. search needs) (λ c κs. search needs) add-bytes loop-holds
+    tie.close (tie.spec Inv-loop μ-loop (λ c. search needs) (λ c κs. search needs)
+    (λ c. omega (arith, few 9 (c .before .before .args .n) (omega arith))) loop-holds (λ c. search needs)
     (λ c. search needs) (λ c. search needs) (λ c. search needs) (λ c. search needs) (λ c. search needs)
-    (λ c. search needs) (λ c. search needs) (λ c. search needs) (λ c. search needs) (λ c. search needs)
-    (λ c κs. search needs) (λ c. search needs) (λ c. search needs) (λ c. search needs) loop-again returns)
+    (λ c. search needs) (λ c. search needs) (λ c. search needs) (λ c. search needs) (λ c κs. search needs)
+    (λ c. search needs) (λ c. search needs) (λ c. search needs) loop-again returns)

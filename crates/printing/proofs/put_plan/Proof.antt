@@ -76,4 +76,5 @@ put-plan-spec =
     tie.close (tie.spec Inv-loop μ-loop (λ c. search needs) put-head-requires loop-holds (λ c. search needs)
     (λ c. search needs) (λ c. search needs) (λ c. search needs) (λ c. search needs) (λ c. search needs)
     (λ c. search needs) (λ c. search needs) (λ c. search needs) (λ c. search needs) put-row-requires
-    (λ c. search needs) (λ c. search needs) loop-again (λ c. c .before .loop .inv .1 ∙ head (c .before) .put-head .kept .0) returns)
+    (λ c. search needs) (λ c. search needs) loop-again
+    (λ c. c .before .loop .inv .1 ∙ head (c .before) .put-head .kept .0) returns)
