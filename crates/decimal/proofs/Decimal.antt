@@ -1,7 +1,7 @@
 -- Laws of decimal text: how one digit more is appended, and how long it is.
 use Prim.Native.Nat.{ℕ, zero, suc, _+_, _*_, _/_, _%_, _^_, _≤_, _<_}
-use mathlib.Core.Path.{_≡_, refl, sym, ap, _∙_}
-use mathlib.Core.List.{List, [], _∷_, _++_}
+use mathlib.Core.Path.{_≡_, refl, ap, _∙_}
+use mathlib.Core.List.{[], _∷_, _++_}
 use native.Mathlib.Omega.{arith}
 use native.Mathlib.Nat.{pow-suc}
 use lib.ListN.{length, length-append}
@@ -17,8 +17,7 @@ same zero (suc j) (suc x) p q = absurd (omega arith)
 same (suc k) zero zero p q = refl
 same (suc k) zero (suc x) p q = absurd (omega arith)
 same (suc k) (suc j) zero p q = refl
-same (suc k) (suc j) (suc x) p q =
-    ap (λ (s : List ℕ). s ++ (nought + suc x % 10) ∷ []) (same k j (suc x / 10) (omega arith) (omega arith))
+same (suc k) (suc j) (suc x) p q = rw (same k j (suc x / 10) (omega arith) (omega arith))
 
 pub digits-zero : digits 0 ≡ []
 unfolding digits digitsIn
@@ -27,15 +26,14 @@ digits-zero = refl
 pub digits-last : (x : ℕ) → 0 < x → digits x ≡ digits (x / 10) ++ (nought + x % 10) ∷ []
 unfolding digits digitsIn
 digits-last zero p = absurd (omega arith)
-digits-last (suc x) p =
-    ap (λ (s : List ℕ). s ++ (nought + suc x % 10) ∷ []) (same x (suc x / 10) (suc x / 10) (omega arith) (omega arith))
+digits-last (suc x) p = rw (same x (suc x / 10) (suc x / 10) (omega arith) (omega arith))
 
 -- one digit more behind those of v
 pub digits-more : (v d : ℕ) → d < 10 → 0 < 10 * v + d → digits (10 * v + d) ≡ digits v ++ (nought + d) ∷ []
 digits-more v d p q =
     let a : (10 * v + d) / 10 ≡ v = omega arith in
     let b : (10 * v + d) % 10 ≡ d = omega arith in
-    digits-last (10 * v + d) q ∙ rw (a, b)
+    rw (digits-last (10 * v + d) q, a, b)
 
 pub decimal-digits : (x : ℕ) → 0 < x → decimal x ≡ digits x
 unfolding decimal
@@ -52,15 +50,13 @@ decimal-small (suc x) p =
 
 pub decimal-big : (x : ℕ) → 10 ≤ x → decimal x ≡ decimal (x / 10) ++ (nought + x % 10) ∷ []
 decimal-big x p =
-    decimal-digits x (omega arith)
-    ∙ digits-last x (omega arith)
-    ∙ ap (λ (s : List ℕ). s ++ (nought + x % 10) ∷ []) (sym (decimal-digits (x / 10) (omega arith)))
+    rw (decimal-digits x (omega arith), decimal-digits (x / 10) (omega arith)) (digits-last x (omega arith))
 
 pub length-small : (x : ℕ) → x < 10 → length (decimal x) ≡ 1
 length-small x p = ap length (decimal-small x p)
 
 pub length-big : (x : ℕ) → 10 ≤ x → length (decimal x) ≡ length (decimal (x / 10)) + 1
-length-big x p = ap length (decimal-big x p) ∙ length-append (decimal (x / 10)) ((nought + x % 10) ∷ [])
+length-big x p = rw (decimal-big x p, length-append)
 
 -- a number below 10 ^ k has k digits or fewer
 pub few-digits : (k x : ℕ) → x < 10 ^ k → length (digits x) ≤ k
@@ -71,8 +67,7 @@ few-digits (suc k) x p =
     by-le x 0
     (λ z. let e : x ≡ 0 = omega arith in rw e (omega arith))
     (λ z.
-    let r = few-digits k (x / 10) (omega (arith, pow-suc 10 k)) in
-    let e = ap length (digits-last x z) ∙ length-append (digits (x / 10)) ((nought + x % 10) ∷ []) in omega arith)
+    rw (digits-last x z, length-append) (omega (arith, few-digits k (x / 10) (omega (arith, pow-suc 10 k)))))
 
 pub few : (k x : ℕ) → x < 10 ^ suc k → length (decimal x) ≤ suc k
 few k x p =

@@ -1,6 +1,6 @@
 -- Laws of a text in a buffer: its length, one text behind another, and that what was put is settled.
 use Prim.Native.Nat.{ℕ, suc, _+_, _≤_}
-use mathlib.Core.Path.{_≡_, sym, ap, _∙_}
+use mathlib.Core.Path.{_≡_, sym, _∙_}
 use mathlib.Core.List.{List, [], _∷_, _++_, append-assoc}
 use native.Mathlib.Omega.{arith}
 use native.Mathlib.Numerals.{add-one}
@@ -10,26 +10,24 @@ use Rattle.decimal.specs.inside.Placed.{placed, Put}
 
 module _ (b : List ℕ) (at : ℕ) (t : List ℕ) (fits : at + length t ≤ length b) where
   front-length : length (take at b ++ t) ≡ at + length t
-  front-length = length-append (take at b) t ∙ ap (λ (n : ℕ). n + length t) (length-take-le at b (omega arith))
+  front-length = simp length-append (omega (arith, length-take-le at b (omega arith)))
 
   pub length-placed : length (placed b at t) ≡ length b
-  length-placed =
-      let e = length-append (take at b ++ t) (drop (at + length t) b) in
-      omega (arith, front-length, length-drop (at + length t) b)
+  length-placed = rw (length-append, front-length, length-drop) (omega arith)
 
   -- a text u behind the text t
   pub placed-behind : (u : List ℕ) → placed (placed b at t) (at + length t) u ≡ placed b at (t ++ u)
   placed-behind u =
       let n = at + length t in
-      let d : drop (n + length u) (placed b at t) ≡ drop (n + length u) b =
-      sym (drop-drop (length u) n (placed b at t))
-      ∙ ap (drop (length u)) (drop-at (take at b ++ t) (drop n b) n front-length)
-      ∙ drop-drop (length u) n b in
-      let e : n + length u ≡ at + length (t ++ u) = (let l = length-append t u in omega arith) in
-      ap (λ (l : List ℕ). l ++ u ++ drop (n + length u) (placed b at t))
-      (take-at (take at b ++ t) (drop n b) n front-length)
-      ∙ ap (λ (l : List ℕ). take at b ++ t ++ u ++ l) d
-      ∙ rw (e, append-assoc (take at b) t u)
+      let e : n + length u ≡ at + length (t ++ u) = simp length-append (omega arith) in
+      rw (
+        take-at (take at b ++ t) (drop n b) n front-length,
+        ← drop-drop (length u) n (placed b at t),
+        drop-at (take at b ++ t) (drop n b) n front-length,
+        drop-drop,
+        e,
+        append-assoc (take at b) t u,
+      )
 
 -- a byte before the text t
 pub placed-before : (b : List ℕ) (at v : ℕ) (t : List ℕ) → at + 1 + length t ≤ length b →
@@ -52,12 +50,8 @@ pub put-behind : {b t c u d : List ℕ} {at m n : ℕ} → at + length t ≤ len
     Put b at (t ++ u) d n
 put-behind {b} {t} {c} {u} {d} {at} {m} {n} fits p q =
     record {
-      behind = q .behind ∙ ap (λ (k : ℕ). k + length u) (p .behind) ∙ (let e = length-append t u in omega arith);
-      whole =
-          q .whole
-          ∙ ap (λ (l : List ℕ). placed l m u) (p .whole)
-          ∙ ap (λ (k : ℕ). placed (placed b at t) k u) (p .behind)
-          ∙ placed-behind b at t fits u;
+      behind = simp length-append (omega arith);
+      whole = q .whole ∙ rw (p .whole, p .behind) (placed-behind b at t fits u);
     }
 
 -- nothing put

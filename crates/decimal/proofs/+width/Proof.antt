@@ -21,35 +21,16 @@ width-at t = and 0 width-kinds.ps (is 0 width-kinds.ps μ-width t) width.Pre
 abbrev width-below : ℕ → In 0 width-kinds.ps
 width-below t = and 0 width-kinds.ps (falls 0 width-kinds.ps _<_ μ-width t) width.Pre
 
-width-returns :
-    (t : ℕ) → width-lts.Need-returns (width-below t, width.Post) (width-at t) width.Post
+width-returns : (t : ℕ) → width-lts.Need-returns (width-below t, width.Post) (width-at t) width.Post
 width-returns t c = sym (length-small (c .before .args .x) (c .if1 .taken))
 
-width-width-requires :
-    (t : ℕ) → width-lts.Need-width-requires (width-below t, width.Post) (width-at t) width.Post
-width-width-requires t c κs = search needs
+width-add-result : (t : ℕ) → width-lts.Need-add-result (width-below t, width.Post) (width-at t) width.Post
+width-add-result t c = omega (arith, few 9 (c .before .before .args .x / 10) (omega arith))
 
-width-add-result :
-    (t : ℕ) → width-lts.Need-add-result (width-below t, width.Post) (width-at t) width.Post
-width-add-result t c =
-    let x = c .before .before .args .x in
-    let fit = c .before .before .fits .x .fits in
-    let e = c .width .ensures in omega (arith, few 9 (x / 10) (omega arith))
-
-width-returns-2 :
-    (t : ℕ) → width-lts.Need-returns-2 (width-below t, width.Post) (width-at t) width.Post
-width-returns-2 t c =
-    let e = c .width .ensures in omega (arith, length-big (c .before .before .args .x) (c .before .if1 .left))
+width-returns-2 : (t : ℕ) → width-lts.Need-returns-2 (width-below t, width.Post) (width-at t) width.Post
+width-returns-2 t c = omega (arith, length-big (c .before .before .args .x) (c .before .if1 .left))
 
 pub +width-spec : {M : Type 1} → statement M
 +width-spec =
-    close
-    μ-width
-    λ t. width-lts.spec
-    (width-below t, width.Post)
-    (width-at t)
-    width.Post
-    (width-returns t)
-    (width-width-requires t)
-    (width-add-result t)
-    (width-returns-2 t)
+    close μ-width λ t. width-lts.spec (width-below t, width.Post) (width-at t) width.Post (width-returns t)
+    (λ c κs. search needs) (width-add-result t) (width-returns-2 t)

@@ -25,33 +25,30 @@ record Writing (b : List ℕ) (at x : ℕ) (buf : List ℕ) (place rest : ℕ) :
 module _ {b : List ℕ} {at x : ℕ} {buf : List ℕ} {place rest : ℕ} (w : Writing b at x buf place rest)
     (fits : at + length (decimal x) ≤ length b) where
   room : place + 1 + length (w .tail) ≤ length b
-  room = omega (arith, ap length (w .text), length-append (decimal rest) (w .tail), w .last)
+  room = omega (arith, simp length-append at (ap length (w .text)))
 
   same : length buf ≡ length b
   same = ap length (w .whole) ∙ length-placed b (place + 1) (w .tail) room
 
   digit : (v : ℕ) → set buf place v ≡ placed b place (v ∷ w .tail)
-  digit v = ap (λ (l : List ℕ). set l place v) (w .whole) ∙ placed-before b place v (w .tail) room
+  digit v = rw (w .whole) (placed-before b place v (w .tail) room)
 
   -- the last digit of the rest
   one-more : 10 ≤ rest → Writing b at x (set buf place (48 + rest % 10)) (place - 1) (rest / 10)
   one-more h =
-      let n : place - 1 + 1 ≡ place = omega (arith, w .last, length-big rest h, some (rest / 10)) in
+      let n : place - 1 + 1 ≡ place = omega (arith, length-big rest h, some (rest / 10)) in
       record {
         tail = (48 + rest % 10) ∷ w .tail;
-        text =
-            w .text
-            ∙ ap (λ (l : List ℕ). l ++ w .tail) (decimal-big rest h)
-            ∙ append-assoc (decimal (rest / 10)) ((48 + rest % 10) ∷ []) (w .tail);
-        last = omega (arith, w .last, length-big rest h, n);
-        whole = digit (48 + rest % 10) ∙ rw n;
+        text = rw (w .text, decimal-big rest h, append-assoc);
+        last = omega (arith, length-big rest h);
+        whole = rw n (digit (48 + rest % 10));
       }
 
   -- the first digit of all
   all : rest < 10 → set buf place (48 + rest) ≡ placed b at (decimal x)
   all h =
-      let n : place ≡ at = omega (arith, w .last, length-small rest h) in
-      digit (48 + rest) ∙ rw (n, w .text, decimal-small rest h)
+      let n : place ≡ at = omega (arith, length-small rest h) in
+      rw (w .text, decimal-small rest h, ← n) (digit (48 + rest))
 
 abbrev Inv-loop : tie.InvT-loop
 Inv-loop buf₀ at x behind place₀ rest₀ buf place rest = Writing buf₀ at x buf place rest
@@ -59,60 +56,41 @@ Inv-loop buf₀ at x behind place₀ rest₀ buf place rest = Writing buf₀ at 
 abbrev μ-loop : tie.MeasureT-loop
 μ-loop buf₀ at x behind place₀ rest₀ buf place rest = rest
 
-add-behind : tie.Need-add-behind Inv-loop μ-loop
-add-behind c = omega (arith, c .width .ensures)
-
-sub-place : tie.Need-sub-place Inv-loop μ-loop
-sub-place c = omega (arith, c .width .ensures, some (c .before .before .args .x))
-
 loop-holds : tie.Need-loop-holds Inv-loop μ-loop
 loop-holds c =
     let a = c .before .before .args in
-    let n : a .at + c .width .result - 1 + 1 ≡ a .at + length (decimal (a .x)) =
-    omega (arith, c .width .ensures, some (a .x)) in
     record {
       tail = [];
       text = sym (append-nil (decimal (a .x)));
-      last = n;
+      last = omega (arith, c .width .ensures, some (a .x));
       whole = paste-zero (a .buf .now) (a .at + c .width .result - 1 + 1) [];
     }
 
-slice-write-buf : tie.Need-slice-write-buf Inv-loop μ-loop
-slice-write-buf c =
-    let l = c .before .loop in
-    let p = c .before .before .before .before .pre in omega (arith, same (l .inv) p, room (l .inv) p)
+-- there is room for what is left
+module _ (h : tie.At-loop Inv-loop μ-loop) where
+  fits : h .before .before .before .args .at + length (decimal (h .before .before .before .args .x))
+      ≤ length (h .before .before .before .args .buf .now)
+  fits = h .before .before .before .pre
+
+  within : h .loop .place < length (h .loop .buf)
+  within = omega (arith, same (h .loop .inv) fits, room (h .loop .inv) fits)
 
 sub-place-2 : tie.Need-sub-place-2 Inv-loop μ-loop
 sub-place-2 c =
-    let l = c .before .loop in omega (
-      arith,
-      l .inv .last,
-      length-big (l .rest) (c .loop-test .taken),
-      some
-          (l .rest / 10),
-    )
-
-loop-again : tie.Need-loop-again Inv-loop μ-loop
-loop-again c = one-more (c .before .loop .inv) (c .before .before .before .before .pre) (c .loop-test .taken)
-
-slice-write-buf-2 : tie.Need-slice-write-buf-2 Inv-loop μ-loop
-slice-write-buf-2 c =
-    let l = c .before .loop in
-    let p = c .before .before .before .before .pre in omega (arith, same (l .inv) p, room (l .inv) p)
-
-same-length : tie.Need-same-length Inv-loop μ-loop
-same-length c = simp length-set (same (c .before .loop .inv) (c .before .before .before .before .pre))
+    let l = c .before .loop in omega (arith, l .inv .last, length-big (l .rest) (c .loop-test .taken), some (l .rest / 10))
 
 returns : tie.Need-returns Inv-loop μ-loop
 returns c =
     record {
       behind = omega (arith, c .before .before .width .ensures);
-      whole = all (c .before .loop .inv) (c .before .before .before .before .pre) (c .loop-test .left);
+      whole = all (c .before .loop .inv) (fits (c .before)) (c .loop-test .left);
     }
 
 pub put-number-spec : {M : Type 1} → statement M
 put-number-spec =
-    tie.close
-    (tie.spec Inv-loop μ-loop (λ c κs. search needs) add-behind sub-place loop-holds (λ c. search needs)
-    (λ c. search needs) slice-write-buf sub-place-2 (λ c. search needs) loop-again (λ c. search needs)
-    (λ c. search needs) slice-write-buf-2 same-length returns)
+    tie.close (tie.spec Inv-loop μ-loop (λ c κs. search needs) (λ c. search needs)
+    (λ c. omega (arith, c .width .ensures, some (c .before .before .args .x))) loop-holds (λ c. search needs)
+    (λ c. search needs) (λ c. within (c .before)) sub-place-2 (λ c. search needs)
+    (λ c. one-more (c .before .loop .inv) (fits (c .before)) (c .loop-test .taken)) (λ c. search needs)
+    (λ c. search needs) (λ c. within (c .before))
+    (λ c. simp length-set (same (c .before .loop .inv) (fits (c .before)))) returns)

@@ -1,10 +1,9 @@
 -- `put_word` meets its contract. The loop's invariant: the bytes passed stand over the buffer.
-use Prim.Native.Nat.{ℕ, _≤_, _+_, _-_}
-use mathlib.Core.Path.{_≡_, refl, ap, _∙_}
+use Prim.Native.Nat.{_≤_, _-_}
+use mathlib.Core.Path.{_≡_, refl, _∙_}
 use native.Mathlib.Omega.{arith}
-use mathlib.Core.List.{List}
 use native.Mathlib.Numerals.{add-one}
-use lib.ListN.{length, getD, set, length-set}
+use lib.ListN.{length, length-set}
 use lib.Seq.{paste, paste-zero, paste-suc, take-length}
 use borrow.Author.Needs.{needs}
 use Rattle.decimal.proofs.put_word.Statement.{statement}
@@ -23,12 +22,8 @@ loop-again : tie.Need-loop-again Inv-loop μ-loop
 loop-again c =
     let a = c .before .before .before .args in
     let l = c .before .before .loop in
-    let e : set (l .buf) (a .at + l .i) (getD (a .word .now) (l .i) 0) ≡ paste (a .buf .now) (a .at) (a .word .now)
-    (l .i + 1) =
-    ap (λ (b : List ℕ). set b (a .at + l .i) (getD (a .word .now) (l .i) 0)) (l .inv .2)
-    ∙ paste-suc (a .buf .now) (a .at) (a .word .now) (l .i) 0 (omega arith) (omega arith)
-    ∙ rw add-one in
-    (search needs, simp length-set (l .inv .1), e)
+    let e = paste-suc (a .buf .now) (a .at) (a .word .now) (l .i) 0 (omega arith) (omega arith) in
+    (search needs, simp length-set (l .inv .1), rw (l .inv .2, add-one) e)
 
 returns : tie.Need-returns Inv-loop μ-loop
 returns c =
@@ -39,6 +34,5 @@ returns c =
 
 pub put-word-spec : {M : Type 1} → statement M
 put-word-spec =
-    tie.close
-    (tie.spec Inv-loop μ-loop loop-holds (λ c. search needs) (λ c. search needs) (λ c. search needs)
+    tie.close (tie.spec Inv-loop μ-loop loop-holds (λ c. search needs) (λ c. search needs) (λ c. search needs)
     (λ c. search needs) (λ c. search needs) loop-again (λ c. search needs) (λ c. search needs) returns)
