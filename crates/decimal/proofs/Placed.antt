@@ -1,11 +1,11 @@
 -- Laws of a text in a buffer: its length, one text behind another, and that what was put is settled.
-use Prim.Native.Nat.{ℕ, suc, _+_, _≤_}
+use Prim.Native.Nat.{ℕ, _+_, _≤_}
 use mathlib.Core.Path.{_≡_, sym, _∙_}
 use mathlib.Core.List.{List, [], _∷_, _++_, append-assoc}
 use native.Mathlib.Omega.{arith}
 use native.Mathlib.Numerals.{add-one}
-use lib.ListN.{length, take, drop, set, length-append, length-drop}
-use lib.Seq.{length-take-le, paste-zero, take-append-le, take-take, take-at, drop-at, drop-drop, set-split}
+use lib.ListN.{length, getD, take, drop, set, length-append, length-drop}
+use lib.Seq.{take-suc, set-at, length-take-le, paste-zero, take-at, drop-at, drop-drop}
 use Rattle.decimal.specs.inside.Placed.{placed, Put}
 
 module _ (b : List ℕ) (at : ℕ) (t : List ℕ) (fits : at + length t ≤ length b) where
@@ -20,30 +20,18 @@ module _ (b : List ℕ) (at : ℕ) (t : List ℕ) (fits : at + length t ≤ leng
   placed-behind u =
       let n = at + length t in
       let e : n + length u ≡ at + length (t ++ u) = simp length-append (omega arith) in
-      rw (
-        take-at (take at b ++ t) (drop n b) n front-length,
-        ← drop-drop (length u) n (placed b at t),
-        drop-at (take at b ++ t) (drop n b) n front-length,
-        drop-drop,
-        e,
-        append-assoc (take at b) t u,
-      )
+      let front = take-at (take at b ++ t) (drop n b) n front-length in
+      let rest = drop-at (take at b ++ t) (drop n b) n front-length in
+      rw (front, ← drop-drop (length u) n (placed b at t), rest, drop-drop, e, append-assoc (take at b) t u)
 
 -- a byte before the text t
 pub placed-before : (b : List ℕ) (at v : ℕ) (t : List ℕ) → at + 1 + length t ≤ length b →
     set (placed b (at + 1) t) at v ≡ placed b at (v ∷ t)
 placed-before b at v t fits =
-    let n : length (take (at + 1) b) ≡ at + 1 = length-take-le (at + 1) b (omega arith) in
-    let more = t ++ drop (at + 1 + length t) b in
-    let e : placed b (at + 1) t ≡ take (at + 1) b ++ more =
-    append-assoc (take (at + 1) b) t (drop (at + 1 + length t) b) in
-    let front : take at (take (at + 1) b ++ more) ≡ take at b =
-    take-append-le at (take (at + 1) b) more (omega arith) ∙ take-take at (at + 1) b (omega arith) in
-    let rest : drop (suc at) (take (at + 1) b ++ more) ≡ more =
-    drop-at (take (at + 1) b) more (suc at) (n ∙ add-one at) in
-    let m : at + 1 + length t ≡ at + length (v ∷ t) = omega arith in
-    set-split (placed b (at + 1) t) at v (omega (arith, length-placed b (at + 1) t fits))
-    ∙ rw (e, front, rest, m, append-assoc)
+    let n : length (take at b) ≡ at = length-take-le at b (omega arith) in
+    let first : take (at + 1) b ≡ take at b ++ getD b at 0 ∷ [] = rw add-one (take-suc b at 0 (omega arith)) in
+    let m : at + length (v ∷ t) ≡ at + 1 + length t = omega arith in
+    rw (first, m) (simp append-assoc (set-at (take at b) (getD b at 0) (t ++ drop (at + 1 + length t) b) v at n))
 
 -- a text put behind a text that was put
 pub put-behind : {b t c u d : List ℕ} {at m n : ℕ} → at + length t ≤ length b → Put b at t c m → Put c m u d n →

@@ -68,14 +68,11 @@ module _ (end : ℕ) (other : end < nought) where
       ⊎-elim (λ q. q .1) (λ q. absurd (omega arith)) (next a b (end ∷ x) y (hb .low) f)
 
   module _ (most v : ℕ) (s t : List ℕ) (some : 1 ≤ most) (high : v ≤ most) (split : s ≡ digits v ++ t) where
-    front : take (length (digits v)) s ≡ digits v
-    front = rw (split, take-append-seam)
-
     begun : (w : ℕ) × Between most w × Begins (take (length (digits v)) s) (decimal w ++ end ∷ [])
     begun =
         by-eq v 0
-        (λ z. (1, record { low = omega arith; high = some }, (decimal 1 ++ end ∷ [], rw (front, z, digits-zero))))
-        (λ z. (v, record { low = omega arith; high = high }, (end ∷ [], rw (front, decimal-digits v (omega arith)))))
+        (λ z. (1, record { low = omega arith; high = some }, (decimal 1 ++ end ∷ [], rw (split, take-append-seam, z, digits-zero))))
+        (λ z. (v, record { low = omega arith; high = high }, (end ∷ [], rw (split, take-append-seam, decimal-digits v (omega arith)))))
 
     long : length s ≡ length (digits v) + length t
     long = rw (split, length-append)
@@ -92,10 +89,8 @@ module _ (end : ℕ) (other : end < nought) where
         }
 
     -- the byte behind them goes on with no number and does not end one
-    pub number-stops : (b : ℕ) (u : List ℕ) → t ≡ b ∷ u
-        → ((d : ℕ) → Digit b d → Between most (10 * v + d) → ⊥)
-        → (b ≡ end → v ≡ 0)
-        → Stops (numberPiece most end) s (length (digits v))
+    pub number-stops : (b : ℕ) (u : List ℕ) → t ≡ b ∷ u → ((d : ℕ) → Digit b d → Between most (10 * v + d) → ⊥) →
+        (b ≡ end → v ≡ 0) → Stops (numberPiece most end) s (length (digits v))
     number-stops b u e no-digit no-end =
         let here : take (suc (length (digits v))) s ≡ digits v ++ b ∷ [] = rw (← add-one, split, take-append-add, e) in
         let wrong : (w : ℕ) (z y : List ℕ) → Between most w → digits v ++ (b ∷ z) ≡ (decimal w ++ end ∷ []) ++ y → ⊥ =
@@ -127,8 +122,7 @@ number-passed most end v s at next low high within behind split =
 pub number-grows : (v b r d : ℕ) (s u : List ℕ) → 1 ≤ r → Digit b d → r ≡ 10 * v + d → s ≡ digits v ++ (b ∷ u)
     → (s ≡ digits r ++ u) × (length (digits r) ≡ length (digits v) + 1)
 number-grows v b r d s u low digit more e =
-    let f : digits r ≡ digits v ++ b ∷ [] =
-    rw (more, digit .byte) (digits-more v d (omega arith) (omega arith)) in
+    let f : digits r ≡ digits v ++ b ∷ [] = rw (more, digit .byte) (digits-more v d (omega arith) (omega arith)) in
     (cc (append-assoc (digits v) (b ∷ []) u), rw (f, length-append))
 
 -- a decimal text with a byte behind it that is no digit tells the number, 0 among them
@@ -138,8 +132,7 @@ decimal-tells end other v w x y e =
     by-eq v 0
     (λ p. by-eq w 0 (λ q. p ∙ sym q) (λ q. absurd (zero-differs end other w x y (omega arith) (rw p at e))))
     (λ p.
-    by-eq w 0
-    (λ q. absurd (zero-differs end other v y x (omega arith) (rw q at (sym e))))
+    by-eq w 0 (λ q. absurd (zero-differs end other v y x (omega arith) (rw q at (sym e))))
     (λ q.
     code-number end other (v + w) v w (record { low = omega arith; high = omega arith })
     (record { low = omega arith; high = omega arith }) x y (simp append-assoc e)))

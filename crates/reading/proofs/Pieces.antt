@@ -16,8 +16,7 @@ cancel (a ∷ p) {x} {y} e = cancel p (let tail : p ++ x ≡ p ++ y = cc in tail
 
 -- what begins with more of s begins with less of it
 pub begins-less : (s : List ℕ) {t : List ℕ} (p q : ℕ) → p ≤ q → Begins (take q s) t → Begins (take p s) t
-begins-less s p q h b =
-    (drop p (take q s) ++ b .0, rw (← take-take p q s h, ← append-assoc, take-append-drop) (b .1))
+begins-less s p q h b = (drop p (take q s) ++ b .0, rw (← take-take p q s h, ← append-assoc, take-append-drop) (b .1))
 
 -- what a text begins with, the text with more behind it begins with
 pub begins-on : (p : List ℕ) {t : List ℕ} (u : List ℕ) → Begins p t → Begins p (t ++ u)

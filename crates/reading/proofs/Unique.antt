@@ -19,30 +19,26 @@ module _ {P : Piece} where
   -- where one text of the piece begins with q bytes, the reader does not stop before them
   stops-late : {s : List ℕ} {p q : ℕ} → Stops P s p → Stops P s q → q ≤ p
   stops-late {s} {p} {q} a b =
-      by-le q p (λ h. h)
-      (λ h.
       let g = b .begun in
-      absurd (a .no-more (omega arith) (g .0) (g .1) [] (rw append-nil (begins-less s (suc p) q h (g .2)))))
+      by-le q p (λ h. h)
+      (λ h. absurd (a .no-more (omega arith) (g .0) (g .1) [] (rw append-nil (begins-less s (suc p) q h (g .2)))))
 
   stuck-unique : {s : List ℕ} {at p q : ℕ} → Stuck P s at p → Stuck P s at q → p ≡ q
   stuck-unique a b = omega (arith, stops-late (a .stops) (b .stops), stops-late (b .stops) (a .stops))
 
-  passed-or-stuck : {X : Type 0} {s : List ℕ} {at next place : ℕ} {v : P .Value} →
-      Passed P s at v next → Stuck P s at place → X
-  passed-or-stuck {s = s} {next = next} {v = v} a b =
-      absurd (b .stops .no-text v (a .allowed) (drop next s) (a .split))
+  passed-or-stuck : {s : List ℕ} {at n place : ℕ} {v : P .Value} → Passed P s at v n → Stuck P s at place → ⊥
+  passed-or-stuck {s} {n = n} {v = v} a b = b .stops .no-text v (a .allowed) (drop n s) (a .split)
 
   passed-unique : Code P → {s : List ℕ} {at m n : ℕ} {v w : P .Value} → Passed P s at v m → Passed P s at w n →
       (v ≡ w) × (m ≡ n)
   passed-unique code {s} {at} {m} {n} {v} {w} a b =
-      let e = code v w (a .allowed) (b .allowed) (drop m s) (drop n s) (sym (a .split) ∙ b .split) in
-      (e, cc)
+      let e = code v w (a .allowed) (b .allowed) (drop m s) (drop n s) (sym (a .split) ∙ b .split) in (e, cc)
 
 pub word-unique : (w s : List ℕ) (at : ℕ) (a b : WordRead) → ReadsWord w s at a → ReadsWord w s at b → a ≡ b
 word-unique w s at (word.Past m) (word.Past n) p q =
     let e = passed-unique (code-word w) p q .1 in λ i. word.Past (record { at = e i })
-word-unique w s at (word.Past m) (word.Stuck place) p q = passed-or-stuck p q
-word-unique w s at (word.Stuck place) (word.Past n) p q = passed-or-stuck q p
+word-unique w s at (word.Past m) (word.Stuck place) p q = absurd (passed-or-stuck p q)
+word-unique w s at (word.Stuck place) (word.Past n) p q = absurd (passed-or-stuck q p)
 word-unique w s at (word.Stuck a) (word.Stuck b) p q = ap word.Stuck (stuck-unique p q)
 
 pub number-unique : (most end : ℕ) → end < nought → (s : List ℕ) (at : ℕ) (a b : NumberRead) →
@@ -50,6 +46,6 @@ pub number-unique : (most end : ℕ) → end < nought → (s : List ℕ) (at : �
 number-unique most end other s at (number.Past v m) (number.Past w n) p q =
     let e = passed-unique (code-number end other most) p q in
     λ i. number.Past (e .0 i) (record { at = e .1 i })
-number-unique most end other s at (number.Past v m) (number.Stuck _) p q = passed-or-stuck p q
-number-unique most end other s at (number.Stuck _) (number.Past w n) p q = passed-or-stuck q p
+number-unique most end other s at (number.Past v m) (number.Stuck _) p q = absurd (passed-or-stuck p q)
+number-unique most end other s at (number.Stuck _) (number.Past w n) p q = absurd (passed-or-stuck q p)
 number-unique most end other s at (number.Stuck a) (number.Stuck b) p q = ap number.Stuck (stuck-unique p q)

@@ -66,14 +66,8 @@ loop-holds c =
       whole = paste-zero (a .buf .now) (a .at + c .width .result - 1 + 1) [];
     }
 
--- there is room for what is left
-module _ (h : tie.At-loop Inv-loop μ-loop) where
-  fits : h .before .before .before .args .at + length (decimal (h .before .before .before .args .x))
-      ≤ length (h .before .before .before .args .buf .now)
-  fits = h .before .before .before .pre
-
-  within : h .loop .place < length (h .loop .buf)
-  within = omega (arith, same (h .loop .inv) fits, room (h .loop .inv) fits)
+within : (h : tie.At-loop Inv-loop μ-loop) → h .loop .place < length (h .loop .buf)
+within h = let p = h .before .before .before .pre in omega (arith, same (h .loop .inv) p, room (h .loop .inv) p)
 
 sub-place-2 : tie.Need-sub-place-2 Inv-loop μ-loop
 sub-place-2 c =
@@ -83,7 +77,7 @@ returns : tie.Need-returns Inv-loop μ-loop
 returns c =
     record {
       behind = omega (arith, c .before .before .width .ensures);
-      whole = all (c .before .loop .inv) (fits (c .before)) (c .loop-test .left);
+      whole = all (c .before .loop .inv) (c .before .before .before .before .pre) (c .loop-test .left);
     }
 
 pub put-number-spec : {M : Type 1} → statement M
@@ -91,6 +85,6 @@ put-number-spec =
     tie.close (tie.spec Inv-loop μ-loop (λ c κs. search needs) (λ c. search needs)
     (λ c. omega (arith, c .width .ensures, some (c .before .before .args .x))) loop-holds (λ c. search needs)
     (λ c. search needs) (λ c. within (c .before)) sub-place-2 (λ c. search needs)
-    (λ c. one-more (c .before .loop .inv) (fits (c .before)) (c .loop-test .taken)) (λ c. search needs)
-    (λ c. search needs) (λ c. within (c .before))
-    (λ c. simp length-set (same (c .before .loop .inv) (fits (c .before)))) returns)
+    (λ c. one-more (c .before .loop .inv) (c .before .before .before .before .pre) (c .loop-test .taken))
+    (λ c. search needs) (λ c. search needs) (λ c. within (c .before))
+    (λ c. simp length-set (same (c .before .loop .inv) (c .before .before .before .before .pre))) returns)

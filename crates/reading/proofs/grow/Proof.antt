@@ -5,13 +5,10 @@ use borrow.Author.Needs.{needs}
 use Rattle.reading.proofs.grow.Statement.{statement}
 use Rattle.reading.proofs.grow.Tie as tie
 
-returns-5 : tie.Need-returns-5
-returns-5 c = (
-  record { low = c .before .if3 .left; high = c .if4 .left },
-  (c .before .before .before .before .args .byte - 48, record { small = search needs; byte = search needs }, refl),
-)
-
 pub grow-spec : {M : Type 1} → statement M
 grow-spec =
     tie.close (tie.spec (λ c. search needs) (λ c. search needs) (λ c. search needs) (λ c. search needs)
-    (λ c. search needs) (λ c. search needs) (λ c. search needs) returns-5)
+    (λ c. search needs) (λ c. search needs) (λ c. search needs) (λ c. (
+      record { low = c .before .if3 .left; high = c .if4 .left },
+      (c .before .before .before .before .args .byte - 48, record { small = search needs; byte = search needs }, refl),
+    )))

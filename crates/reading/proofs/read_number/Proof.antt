@@ -62,9 +62,6 @@ stuck c none =
     (s h .pre .1) (h .loop .inv .1) (ahead (c .before .before .before .before)) (byte h) (behind h) refl
     (rw (c .enum-told .given .1) at (c .before .before .grow .ensures)) none)
 
-loop-holds : tie.Need-loop-holds Inv-loop μ-loop
-loop-holds c = (c .before .pre .0, search needs, omega (arith, ap length digits-zero), rw digits-zero)
-
 loop-again : tie.Need-loop-again Inv-loop μ-loop
 loop-again c =
     let i = c .before .before .before .before .before in
@@ -92,7 +89,8 @@ returns-4 c =
 
 pub read-number-spec : {M : Type 1} → statement M
 read-number-spec =
-    tie.close (tie.spec Inv-loop μ-loop loop-holds (λ c. search needs) (λ c. search needs) (λ c κs. search needs)
-    (λ c. search needs) (λ c. search needs) loop-again (λ c. search needs) returns
-    (λ c. stuck (c .before .before) (λ _. omega arith)) (λ c. stuck (c .before) (λ e. absurd (c .if1 .left e)))
-    returns-4)
+    tie.close (tie.spec Inv-loop μ-loop
+    (λ c. (c .before .pre .0, search needs, omega (arith, ap length digits-zero), rw digits-zero))
+    (λ c. search needs) (λ c. search needs) (λ c κs. search needs) (λ c. search needs) (λ c. search needs) loop-again
+    (λ c. search needs) returns (λ c. stuck (c .before .before) (λ _. omega arith))
+    (λ c. stuck (c .before) (λ e. absurd (c .if1 .left e))) returns-4)
