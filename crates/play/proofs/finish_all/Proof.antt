@@ -13,7 +13,7 @@ use Rattle.tables.specs.Table.{Table, tableOf}
 use Rattle.tables.specs.Plan.{Plan, planOf}
 use Rattle.tables.specs.Jobs.{Jobs, jobsOf}
 use Rattle.play.proofs.Standing.{Next}
-use Rattle.play.proofs.Turn.{at, Playing, Gained, Decided, turns}
+use Rattle.play.proofs.Turn.{at, Playing, Gained, Running, Decided, turns}
 use Rattle.play.proofs.finish_all.Statement.{statement}
 use Rattle.play.proofs.Turn as T
 use Rattle.play.proofs.finish_all.Tie as tie
@@ -57,8 +57,7 @@ module _ (c : tie.After-foremost Inv-loop μ-loop) where
       let r = s .pre .0 in
       let l = h .loop in
       T.decided tb p js (r .sound) (r .formed) (s .pre .1) (s .args .out .now) (l .t) (l .next) (l .heads) (l .done)
-      (l .out)
-      (l .inv .1) (l .inv .0) i (c .foremost .ensures)
+      (l .out) (l .inv .1) (l .inv .0) i (c .foremost .ensures)
 
   room : js .N ≤ length (h .loop .out)
   room = omega (arith, s .pre .2, h .loop .inv .0 .whole)
@@ -69,14 +68,22 @@ module _ (c : tie.After-foremost Inv-loop μ-loop) where
       Stretch js (h .loop .next) (h .loop .t) (js .run k - e) (locked tb p i e) d
   stretched held d q st = subst (λ b. Stretch js (h .loop .next) (h .loop .t) (js .run k - e) b d) q st
 
+-- the row's earliest unfinished job runs
+runs : (c : tie.Else1 Inv-loop μ-loop) →
+    let d = c .before in Running (tb d) (js d) (h d .loop .t) (h d .loop .heads) (h d .loop .done) (i d)
+runs c = decision (c .before) .runs (c .if1 .left)
+
+-- and how far it runs
 ran : (c : tie.After-stretch Inv-loop μ-loop) →
     let d = c .before .before .before .before in
-    Stretch (js d) (h d .loop .next) (h d .loop .t) (js d .run (k d) - e d) (locked (tb d) (p d) (i d) (e d))
+    Running (tb d) (js d) (h d .loop .t) (h d .loop .heads) (h d .loop .done) (i d)
+    × Stretch (js d) (h d .loop .next) (h d .loop .t) (js d .run (k d) - e d) (locked (tb d) (p d) (i d) (e d))
     (c .stretch .result)
-ran c =
-    stretched (c .before .before .before .before) (c .before .held .result) (c .stretch .result)
-    (c .before .held .ensures)
-    (c .stretch .ensures)
+ran c = (
+  runs (c .before .before .before),
+  stretched (c .before .before .before .before) (c .before .held .result) (c .stretch .result)
+      (c .before .held .ensures) (c .stretch .ensures),
+)
 
 -- after the turn
 decided : (c : tie.Joined1 Inv-loop μ-loop) →
@@ -98,180 +105,33 @@ decided c =
     (decision d .finishes (w .0 .left) (w .3 .result) (w .5 .result) st (w .4 .left) (room d) (w .5 .ensures))))
     (c .if1 .came)
 
-first-jobs-requires : tie.Need-first-jobs-requires Inv-loop μ-loop
-first-jobs-requires c κs = c .before .before .before .before .pre .0 .sound .few
-
 loop-holds : tie.Need-loop-holds Inv-loop μ-loop
 loop-holds c =
     let s = c .before .before .before .before .before .before in
     T.starts (tableOf (s .args .table .now)) (planOf (s .args .plan .now)) (jobsOf (s .args .jobs .now))
-    (s .pre .0 .sound) (s .pre .0 .formed)
-    (s .pre .1) (s .args .out .now) (c .before .first-jobs .result) (c .released .result)
-    (c .before .first-jobs .ensures) (c .released .ensures)
+    (s .pre .0 .sound) (s .pre .0 .formed) (s .pre .1) (s .args .out .now) (c .before .first-jobs .result)
+    (c .released .result) (c .before .first-jobs .ensures) (c .released .ensures)
 
 foremost-requires : tie.Need-foremost-requires Inv-loop μ-loop
 foremost-requires c κs =
     let h = c .before .before in
     (h .before .before .before .before .before .before .before .pre .0, h .loop .inv .0 .small)
 
-same-length : tie.Need-same-length Inv-loop μ-loop
-same-length c = h (c .before .before) .loop .inv .0 .whole
-
 returns : tie.Need-returns Inv-loop μ-loop
 returns c = decision (c .before .before) .over (c .before .if1 .taken) (c .if2 .taken)
 
-mul-t : tie.Need-mul-t Inv-loop μ-loop
-mul-t c = omega (arith, c .if2 .left)
-
-add-t : tie.Need-add-t Inv-loop μ-loop
-add-t c = omega (arith, c .if2 .left)
-
-mul-t-2 : tie.Need-mul-t-2 Inv-loop μ-loop
-mul-t-2 c = omega (arith, c .if2 .left)
-
-shared-slice-read-t : tie.Need-shared-slice-read-t Inv-loop μ-loop
-shared-slice-read-t c = omega (arith, c .before .if2 .left)
-
-mul-k : tie.Need-mul-k Inv-loop μ-loop
-mul-k c =
-    let r = decision (c .before) .runs (c .if1 .left) in
-    omega arith
-
-array-read-k : tie.Need-array-read-k Inv-loop μ-loop
-array-read-k c =
-    let r = decision (c .before) .runs (c .if1 .left) in
-    omega arith
-
-mul-e : tie.Need-mul-e Inv-loop μ-loop
-mul-e c =
-    let r = decision (c .before) .runs (c .if1 .left) in
-    omega arith
-
-array-read-e : tie.Need-array-read-e Inv-loop μ-loop
-array-read-e c =
-    let r = decision (c .before) .runs (c .if1 .left) in
-    omega arith
-
-mul-run : tie.Need-mul-run Inv-loop μ-loop
-mul-run c =
-    let r = decision (c .before) .runs (c .if1 .left) in
-    omega arith
-
-add-run : tie.Need-add-run Inv-loop μ-loop
-add-run c =
-    let r = decision (c .before) .runs (c .if1 .left) in
-    omega arith
-
-mul-run-2 : tie.Need-mul-run-2 Inv-loop μ-loop
-mul-run-2 c =
-    let r = decision (c .before) .runs (c .if1 .left) in
-    omega arith
-
-shared-slice-read-run : tie.Need-shared-slice-read-run Inv-loop μ-loop
-shared-slice-read-run c =
-    let r = decision (c .before .before) .runs (c .before .if1 .left) in
-    omega arith
-
 held-requires : tie.Need-held-requires Inv-loop μ-loop
-held-requires c κs =
-    let r = decision (c .before .before) .runs (c .before .if1 .left) in
-    (s (c .before .before) .pre .0, r .row, omega arith)
-
-sub-stretch : tie.Need-sub-stretch Inv-loop μ-loop
-sub-stretch c =
-    let r = decision (c .before .before .before) .runs (c .before .before .if1 .left) in
-    omega arith
+held-requires c κs = let r = runs (c .before) in (s (c .before .before) .pre .0, r .row, omega arith)
 
 stretch-requires : tie.Need-stretch-requires Inv-loop μ-loop
 stretch-requires c κs =
-    let r = decision (c .before .before .before) .runs (c .before .before .if1 .left) in
+    let r = runs (c .before .before) in
     (omega arith, λ m. h (c .before .before .before) .loop .inv .1 .later _ (omega arith) m)
-
-add-t-2 : tie.Need-add-t-2 Inv-loop μ-loop
-add-t-2 c =
-    let r = decision (c .before .before .before .before) .runs (c .before .before .before .if1 .left) in
-    let d = ran c in
-    omega arith
-
-add-if3 : tie.Need-add-if3 Inv-loop μ-loop
-add-if3 c =
-    let r = decision (c .before .before .before .before) .runs (c .before .before .before .if1 .left) in
-    let d = ran c in
-    omega arith
-
-add-done : tie.Need-add-done Inv-loop μ-loop
-add-done c =
-    let r = decision (c .before .before .before .before .before) .runs (c .before .before .before .before .if1 .left) in
-    let d = ran (c .before) in
-    omega arith
-
-mul-done : tie.Need-mul-done Inv-loop μ-loop
-mul-done c =
-    let r = decision (c .before .before .before .before .before) .runs (c .before .before .before .before .if1 .left) in
-    omega arith
-
-array-write-done : tie.Need-array-write-done Inv-loop μ-loop
-array-write-done c =
-    let r = decision (c .before .before .before .before .before) .runs (c .before .before .before .before .if1 .left) in
-    omega arith
-
-mul-out : tie.Need-mul-out Inv-loop μ-loop
-mul-out c =
-    let r = decision (c .before .before .before .before .before) .runs (c .before .before .before .before .if1 .left) in
-    omega arith
-
-slice-write-out : tie.Need-slice-write-out Inv-loop μ-loop
-slice-write-out c =
-    let r = decision (c .before .before .before .before .before) .runs (c .before .before .before .before .if1 .left) in
-    omega arith
-
-cast-following : tie.Need-cast-following Inv-loop μ-loop
-cast-following c =
-    let r = decision (c .before .before .before .before .before) .runs (c .before .before .before .before .if1 .left) in
-    omega arith
-
-add-following : tie.Need-add-following Inv-loop μ-loop
-add-following c =
-    let r = decision (c .before .before .before .before .before) .runs (c .before .before .before .before .if1 .left) in
-    omega arith
-
-following-requires : tie.Need-following-requires Inv-loop μ-loop
-following-requires c κs =
-    let r = decision (c .before .before .before .before .before) .runs (c .before .before .before .before .if1 .left) in
-    omega arith
-
-mul-heads : tie.Need-mul-heads Inv-loop μ-loop
-mul-heads c =
-    let r = decision (c .before .before .before .before .before .before) .runs
-    (c .before .before .before .before .before .if1 .left) in
-    omega arith
-
-array-write-heads : tie.Need-array-write-heads Inv-loop μ-loop
-array-write-heads c =
-    let r = decision (c .before .before .before .before .before .before) .runs
-    (c .before .before .before .before .before .if1 .left) in
-    omega arith
-
-mul-done-2 : tie.Need-mul-done-2 Inv-loop μ-loop
-mul-done-2 c =
-    let r = decision (c .before .before .before .before .before .before) .runs
-    (c .before .before .before .before .before .if1 .left) in
-    omega arith
-
-array-write-done-2 : tie.Need-array-write-done-2 Inv-loop μ-loop
-array-write-done-2 c =
-    let r = decision (c .before .before .before .before .before .before) .runs
-    (c .before .before .before .before .before .if1 .left) in
-    omega arith
-
-released-requires-2 : tie.Need-released-requires-2 Inv-loop μ-loop
-released-requires-2 c κs = h (c .before) .loop .inv .1 .high
 
 loop-less : tie.Need-loop-less Inv-loop μ-loop
 loop-less c =
-    let g = decided (c .before) .1 in
     let l = h (c .before .before) .loop in
-    T.turns-fall _ (l .next) (l .t) _ _ (l .heads) _ g (c .released2 .ensures)
+    T.turns-fall _ (l .next) (l .t) _ _ (l .heads) _ (decided (c .before) .1) (c .released2 .ensures)
 
 loop-again : tie.Need-loop-again Inv-loop μ-loop
 loop-again c =
@@ -280,15 +140,22 @@ loop-again c =
     let l = h b .loop in (
       d .0,
       T.next-turn (tb b) (p b) (js b) (s b .pre .0 .sound) (s b .pre .0 .formed) (s b .pre .1) (s b .args .out .now)
-          (l .next) (l .t) _ _
-          (l .heads) _ (l .inv .1) (d .1) (c .released2 .ensures),
+          (l .next) (l .t) _ _ (l .heads) _ (l .inv .1) (d .1) (c .released2 .ensures),
     )
 
 pub finish-all-spec : {M : Type 1} → statement M
 finish-all-spec =
     tie.close
-    (tie.spec Inv-loop μ-loop first-jobs-requires (λ c κs. search needs) loop-holds foremost-requires
-    same-length returns mul-t add-t mul-t-2 shared-slice-read-t mul-k array-read-k mul-e array-read-e mul-run
-    add-run mul-run-2 shared-slice-read-run held-requires sub-stretch stretch-requires add-t-2 add-if3
-    add-done mul-done array-write-done mul-out slice-write-out cast-following add-following following-requires
-    mul-heads array-write-heads mul-done-2 array-write-done-2 released-requires-2 loop-less loop-again)
+    (tie.spec Inv-loop μ-loop (λ c κs. c .before .before .before .before .pre .0 .sound .few) (λ c κs. search needs)
+    loop-holds foremost-requires (λ c. h (c .before .before) .loop .inv .0 .whole) returns
+    (λ c. omega (arith, c .if2 .left)) (λ c. omega (arith, c .if2 .left)) (λ c. omega (arith, c .if2 .left))
+    (λ c. omega (arith, c .before .if2 .left)) (λ c. omega (arith, runs c)) (λ c. omega (arith, runs c))
+    (λ c. omega (arith, runs c)) (λ c. omega (arith, runs c)) (λ c. omega (arith, runs c))
+    (λ c. omega (arith, runs c)) (λ c. omega (arith, runs c)) (λ c. omega (arith, runs (c .before))) held-requires
+    (λ c. omega (arith, runs (c .before .before))) stretch-requires (λ c. omega (arith, ran c))
+    (λ c. omega (arith, ran c)) (λ c. omega (arith, ran (c .before))) (λ c. omega (arith, ran (c .before)))
+    (λ c. omega (arith, ran (c .before))) (λ c. omega (arith, ran (c .before))) (λ c. omega (arith, ran (c .before)))
+    (λ c. omega (arith, ran (c .before))) (λ c. omega (arith, ran (c .before))) (λ c κs. omega (arith, ran (c .before)))
+    (λ c. omega (arith, ran (c .before .before))) (λ c. omega (arith, ran (c .before .before)))
+    (λ c. omega (arith, ran (c .before .before))) (λ c. omega (arith, ran (c .before .before)))
+    (λ c κs. h (c .before) .loop .inv .1 .high) loop-less loop-again)
