@@ -1,13 +1,13 @@
 -- The scan over the rows for the foremost one: what is kept of the rows before row i.
 use Prim.Native.Nat.{ℕ, _+_, _≤_, _<_}
 use mathlib.Core.Path.{_≡_, refl}
-use mathlib.Core.Bool.{Bool, true, false, not}
+use mathlib.Core.Bool.{true, false}
 use mathlib.Core.Logic.{_⊎_, inl, inr, ⊎-elim}
 use mathlib.Core.List.{List}
 use native.Mathlib.Omega.{arith}
+use borrow.Author.Needs.{needs}
 use lib.ListN.{getD}
-use Rattle.counting.specs.Sum.{given}
-use Rattle.counting.proofs.Cases.{by-eq}
+use Rattle.counting.proofs.Cases.{by-bool, by-eq}
 use Rattle.tables.specs.Table.{Table}
 use Rattle.tables.specs.Plan.{Plan}
 use Rattle.kernel.specs.Rule.{locked}
@@ -15,11 +15,7 @@ use Rattle.decision.specs.inside.Decision.{urgency, Foremost}
 
 -- a row comes at its rank at the latest
 pub urgency-rank : (tb : Table) (p : Plan) (i e : ℕ) → urgency tb p i e ≤ p .rank i
-urgency-rank tb p i e = at-most (not (locked tb p i e)) (p .rank i)
-  where
-    at-most : (b : Bool) (x : ℕ) → given b x ≤ x
-    at-most true x = omega arith
-    at-most false x = omega arith
+urgency-rank tb p i e = by-bool (locked tb p i e) (λ h. rw h (omega arith)) (λ h. rw h (omega arith))
 
 -- it comes before every rank where its job runs on, and at its rank where it does not
 pub urgency-held : (tb : Table) (p : Plan) (i e : ℕ) → locked tb p i e ≡ true → urgency tb p i e ≡ 0
@@ -44,11 +40,8 @@ pub record Scanned (tb : Table) (p : Plan) (heads done : List ℕ) (next above i
 
 pub scan-none : (tb : Table) (p : Plan) (heads done : List ℕ) (next above : ℕ) →
     Scanned tb p heads done next above 0 (tb .n) above
-scan-none tb p heads done next above = record {
-  high = omega arith;
-  low = λ j h. absurd (omega arith);
-  found = inl (refl, refl);
-}
+scan-none tb p heads done next above =
+    record { high = omega arith; low = λ j h. absurd (omega arith); found = inl (refl, refl) }
 
 module _ {tb : Table} {p : Plan} {heads done : List ℕ} {next above i best least : ℕ}
     (s : Scanned tb p heads done next above i best least) (l : i < tb .n) where
@@ -59,16 +52,7 @@ module _ {tb : Table} {p : Plan} {heads done : List ℕ} {next above i best leas
       record {
         high = omega arith;
         low = λ j g w. by-eq j i (λ e. rw e (h (rw e at w))) (λ e. s .low j (omega arith) w);
-        found =
-            ⊎-elim
-            inl
-            (λ f. inr (record {
-              before = omega (arith, f .before);
-              waits = f .waits;
-              own = f .own;
-              earliest = f .earliest;
-            }))
-            (s .found);
+        found = ⊎-elim inl (λ f. inr (search needs)) (s .found);
       }
 
   pub scan-take : getD heads i 0 < next → urgency tb p i (getD done i 0) < least →
@@ -77,13 +61,12 @@ module _ {tb : Table} {p : Plan} {heads done : List ℕ} {next above i best leas
       record {
         high = omega arith;
         low = λ j g v. by-eq j i (λ e. rw e (omega arith)) (λ e. omega (arith, s .low j (omega arith) v));
-        found =
-            inr (record {
-              before = omega arith;
-              waits = w;
-              own = refl;
-              earliest = λ j g v. omega (arith, s .low j g v);
-            });
+        found = inr (record {
+          before = omega arith;
+          waits = w;
+          own = refl;
+          earliest = λ j g v. omega (arith, s .low j g v);
+        });
       }
 
 pub scan-end : {tb : Table} {p : Plan} {heads done : List ℕ} {next above i best least : ℕ} →
@@ -93,18 +76,18 @@ scan-end {tb} {p} {heads} {done} {next} {above} {i} {best} {least} s e ranks =
     ⊎-elim
     (λ (f : (best ≡ tb .n) × (least ≡ above)).
     let none : (j : ℕ) → j < tb .n → getD heads j 0 < next → ⊥ =
-    λ j h w. omega (arith, s .low j (omega arith) w, f .1, ranks j h, urgency-rank tb p j (getD done j 0)) in
+    λ j h w. omega (arith, s .low j (omega arith) w, ranks j h, urgency-rank tb p j (getD done j 0)) in
     record {
-      high = omega (arith, f .0);
-      waits = λ h. absurd (omega (arith, f .0));
+      high = omega arith;
+      waits = λ h. absurd (omega arith);
       first = λ j h w. absurd (none j h w);
-      earliest = λ j h w. absurd (none j (omega (arith, f .0)) w);
+      earliest = λ j h w. absurd (none j (omega arith) w);
     })
     (λ (f : Best tb p heads done next i best least).
     record {
-      high = omega (arith, f .before);
+      high = omega arith;
       waits = λ h. f .waits;
-      first = λ j h w. (omega (arith, f .before), omega (arith, s .low j (omega arith) w, f .own));
-      earliest = λ j h w. omega (arith, f .own, f .earliest j h w);
+      first = λ j h w. (omega arith, omega (arith, s .low j (omega arith) w));
+      earliest = λ j h w. omega (arith, f .earliest j h w);
     })
     (s .found)

@@ -22,8 +22,7 @@ one-at-most none a b e f =
     (λ h. absurd (none b a f e h))
 
 pub following-unique : (js : Jobs) (i from k l : ℕ) → Following js i from k → Following js i from l → k ≡ l
-following-unique js i from =
-    one-at-most {E = Following js i from} (λ k l a b h. b .none k (a .low) h (a .is (omega (arith, b .high))))
+following-unique js i from = one-at-most (λ k l a b h. b .none k (a .low) h (a .is (omega arith)))
 
 pub heads-unique : (js : Jobs) (n : ℕ) (l m : List ℕ) → Heads js n l → Heads js n m → l ≡ m
 heads-unique js n l m a b =
@@ -33,15 +32,12 @@ heads-unique js n l m a b =
     (λ h. following-unique js i 0 (getD l i 0) (getD m i 0) (a .first i h) (b .first i h)))
 
 pub released-unique : (js : Jobs) (from t k l : ℕ) → Released js from t k → Released js from t l → k ≡ l
-released-unique js from t =
-    one-at-most {E = Released js from t} (λ k l a b h. omega
-    (arith, a .waits (omega (arith, b .high)), b .came k (a .low) h))
+released-unique js from t = one-at-most (λ k l a b h. omega (arith, a .waits (omega arith), b .came k (a .low) h))
 
 pub foremost-unique : (tb : Table) (p : Plan) (heads done : List ℕ) (next i j : ℕ) →
     Foremost tb p heads done next i → Foremost tb p heads done next j → i ≡ j
 foremost-unique tb p heads done next =
-    one-at-most {E = Foremost tb p heads done next}
-    (λ i j a b h.
+    one-at-most (λ i j a b h.
     let l : i < tb .n = omega (arith, b .high) in
     let w = a .waits l in
     let m = b .first i l w .0 in
@@ -50,6 +46,5 @@ foremost-unique tb p heads done next =
 pub stretch-unique : (js : Jobs) (next t left : ℕ) (held : Bool) (d e : ℕ) →
     Stretch js next t left held d → Stretch js next t left held e → d ≡ e
 stretch-unique js next t left held =
-    one-at-most {E = Stretch js next t left held}
-    (λ d e a b h.
+    one-at-most (λ d e a b h.
     ⊎-elim (λ q. omega (arith, b .within)) (λ q. omega (arith, q .2, b .calm (q .0) (q .1))) (a .ends))

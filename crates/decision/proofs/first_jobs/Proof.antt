@@ -22,9 +22,6 @@ Inv-loop jobs n heads₀ i₀ heads i =
 abbrev μ-loop : tie.MeasureT-loop
 μ-loop jobs n heads₀ i₀ heads i = n - i
 
-loop-holds : tie.Need-loop-holds Inv-loop μ-loop
-loop-holds c = (omega arith, refl, λ j h. absurd (omega arith), holds-none {A = ℕ} 0 (λ _. 0) 32 .past)
-
 loop-again : tie.Need-loop-again Inv-loop μ-loop
 loop-again c =
     let l = c .before .before .loop in
@@ -32,7 +29,7 @@ loop-again c =
       omega arith,
       simp length-set (l .inv .1),
       λ j h. by-eq j (l .i)
-          (λ e. rw e (rw (getD-set-same (l .heads) (l .i) k 0 (omega (arith, l .inv .1))) (c .following .ensures)))
+          (λ e. rw (e, getD-set-same (l .heads) (l .i) k 0 (omega (arith, l .inv .1))) (c .following .ensures))
           (λ e. rw (getD-set-other (l .heads) (l .i) j k 0 e) (l .inv .2 j (omega arith))),
       λ j h. getD-set-other (l .heads) (l .i) j k 0 (λ e. omega arith) ∙ l .inv .3 j (omega arith),
     )
@@ -45,5 +42,7 @@ returns c =
 pub first-jobs-spec : {M : Type 1} → statement M
 first-jobs-spec =
     tie.close
-    (tie.spec Inv-loop μ-loop loop-holds (λ c. search needs) (λ c κs. search needs) (λ c. search needs)
-    (λ c. search needs) (λ c. search needs) (λ c. search needs) loop-again returns)
+    (tie.spec Inv-loop μ-loop
+    (λ c. (omega arith, refl, λ j h. absurd (omega arith), holds-none {A = ℕ} 0 (λ _. 0) 32 .past))
+    (λ c. search needs) (λ c κs. search needs) (λ c. search needs) (λ c. search needs) (λ c. search needs)
+    (λ c. search needs) loop-again returns)

@@ -15,14 +15,6 @@ Inv-loop jobs i from many k₀ k =
 abbrev μ-loop : tie.MeasureT-loop
 μ-loop jobs i from many k₀ k = many - k
 
-loop-holds : tie.Need-loop-holds Inv-loop μ-loop
-loop-holds c = (omega arith, omega arith, λ l a b. absurd (omega arith))
-
-returns : tie.Need-returns Inv-loop μ-loop
-returns c =
-    let l = c .before .before .before .loop in
-    record { low = l .inv .0; high = l .inv .1; is = λ h. c .if1 .taken; none = l .inv .2 }
-
 loop-again : tie.Need-loop-again Inv-loop μ-loop
 loop-again c =
     let l = c .before .before .before .loop in (
@@ -31,13 +23,8 @@ loop-again c =
       λ j a b e. by-eq j (l .k) (λ q. c .if1 .left (rw q at e)) (λ q. l .inv .2 j a (omega arith) e),
     )
 
-returns-2 : tie.Need-returns-2 Inv-loop μ-loop
-returns-2 c =
-    let l = c .before .loop in
-    record { low = l .inv .0; high = l .inv .1; is = λ h. absurd (omega arith); none = l .inv .2 }
-
 pub following-spec : {M : Type 1} → statement M
 following-spec =
     tie.close
-    (tie.spec Inv-loop μ-loop loop-holds (λ c. search needs) (λ c. search needs) (λ c. search needs) returns
-    (λ c. search needs) (λ c. search needs) loop-again returns-2)
+    (tie.spec Inv-loop μ-loop (λ c. search needs) (λ c. search needs) (λ c. search needs) (λ c. search needs)
+    (λ c. search needs) (λ c. search needs) (λ c. search needs) loop-again (λ c. search needs))

@@ -16,15 +16,6 @@ Inv-loop table plan heads done next n best₀ least₀ i₀ best least i =
 abbrev μ-loop : tie.MeasureT-loop
 μ-loop table plan heads done next n best₀ least₀ i₀ best least i = n - i
 
-loop-holds : tie.Need-loop-holds Inv-loop μ-loop
-loop-holds c = scan-none _ _ _ _ _ _
-
-element-copy-out-if1 : tie.Need-element-copy-out-if1 Inv-loop μ-loop
-element-copy-out-if1 c = omega (arith, c .before .before .before .before .pre .0 .sound .few)
-
-element-copy-out-urgency-of : tie.Need-element-copy-out-urgency-of Inv-loop μ-loop
-element-copy-out-urgency-of c = omega (arith, c .before .before .before .before .before .before .pre .0 .sound .few)
-
 urgency-of-requires : tie.Need-urgency-of-requires Inv-loop μ-loop
 urgency-of-requires c κs =
     let l = c .before .before .before in
@@ -50,5 +41,5 @@ returns c =
 pub foremost-spec : {M : Type 1} → statement M
 foremost-spec =
     tie.close
-    (tie.spec Inv-loop μ-loop loop-holds (λ c. search needs) element-copy-out-if1 (λ c. search needs)
-    element-copy-out-urgency-of urgency-of-requires (λ c. search needs) (λ c. search needs) loop-again returns)
+    (tie.spec Inv-loop μ-loop (λ c. scan-none _ _ _ _ _ _) (λ c. search needs) (λ c. search needs) (λ c. search needs)
+    (λ c. search needs) urgency-of-requires (λ c. search needs) (λ c. search needs) loop-again returns)

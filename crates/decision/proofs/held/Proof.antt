@@ -7,13 +7,7 @@ use Rattle.decision.proofs.held.Tie as tie
 add-result-2 : tie.Need-add-result-2
 add-result-2 c =
     let b = c .before .before in
-    omega (
-      arith,
-      b .pre .0 .formed .len-high (b .args .i) (b .pre .1),
-      b .pre .0 .sound .C (b .args .i)
-          (b .pre .1) .high,
-      b .pre .2,
-    )
+    omega (arith, b .pre .0 .formed .len-high (b .args .i) (b .pre .1), b .pre .0 .sound .C (b .args .i) (b .pre .1))
 
 pub held-spec : {M : Type 1} → statement M
 held-spec =

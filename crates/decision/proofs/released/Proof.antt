@@ -14,29 +14,14 @@ Inv-loop jobs from t many k₀ k =
 abbrev μ-loop : tie.MeasureT-loop
 μ-loop jobs from t many k₀ k = many - k
 
-loop-holds : tie.Need-loop-holds Inv-loop μ-loop
-loop-holds c = (omega arith, omega arith, λ l a b. absurd (omega arith))
-
-returns : tie.Need-returns Inv-loop μ-loop
-returns c =
-    let l = c .before .before .before .loop in
-    record { low = l .inv .0; high = l .inv .1; came = l .inv .2; waits = λ h. c .if1 .taken }
-
 loop-again : tie.Need-loop-again Inv-loop μ-loop
 loop-again c =
-    let l = c .before .before .before .loop in (
-      omega arith,
-      omega arith,
-      λ j a b. by-eq j (l .k) (λ q. rw q (c .if1 .left)) (λ q. l .inv .2 j a (omega arith)),
-    )
-
-returns-2 : tie.Need-returns-2 Inv-loop μ-loop
-returns-2 c =
-    let l = c .before .loop in
-    record { low = l .inv .0; high = l .inv .1; came = l .inv .2; waits = λ h. absurd (omega arith) }
+    let l = c .before .before .before .loop in
+    (omega arith, omega arith, λ j a b. by-eq j (l .k) (λ q. rw q (c .if1 .left)) (λ q. l .inv .2 j a (omega arith)))
 
 pub released-spec : {M : Type 1} → statement M
 released-spec =
     tie.close
-    (tie.spec Inv-loop μ-loop loop-holds (λ c. search needs) (λ c. search needs) (λ c. search needs)
-    (λ c. search needs) returns (λ c. search needs) (λ c. search needs) loop-again returns-2)
+    (tie.spec Inv-loop μ-loop (λ c. search needs) (λ c. search needs) (λ c. search needs) (λ c. search needs)
+    (λ c. search needs) (λ c. search needs) (λ c. search needs) (λ c. search needs) loop-again
+    (λ c. search needs))
