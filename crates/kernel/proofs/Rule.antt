@@ -1,10 +1,11 @@
 -- Laws of one tick of the dispatch rule: its cases (a), (b), (c) as statements, one of which holds of what is picked;
 -- and that the position of a job in a lawful list never decides.
-use Prim.Native.Nat.{ℕ, zero, suc, _≤_, _<_}
+use Prim.Native.Nat.{ℕ, zero, suc, _+_, _*_, _≤_, _<_}
 use mathlib.Core.Path.{_≡_, refl, ap, sym, _∙_, subst}
 use mathlib.Core.Bool.{Bool, true, false, _&&_}
 use mathlib.Core.Logic.{⊎-elim}
 use native.Mathlib.Omega.{arith}
+use native.Mathlib.Nat.{mul-le-mul-right}
 use lib.Dec.{eqb, ltb, leb}
 use borrow.Author.Tests.{lt-ltb, ltb-true, le-leb, leb-true, eq-eqb, eqb-true}
 use Rattle.counting.specs.Sum.{count}
@@ -39,6 +40,26 @@ one-of-is P (suc n) other f g =
     one-of-is P n other
     (λ k l h q. f k (omega arith) h (m ∙ q))
     (λ h q. g (λ k l. by-eq k n (λ z. ap P z ∙ e) (λ z. h k (omega arith))) (m ∙ q)))
+
+-- no number below n passes, or one that passes has the least value of those that do
+by-least {ℓ} : {X : Type ℓ} (P : ℕ → Bool) (f : ℕ → ℕ) (n : ℕ) → (((k : ℕ) → k < n → P k ≡ false) → X) →
+    ((k : ℕ) → k < n → P k ≡ true → ((l : ℕ) → l < n → P l ≡ true → f k ≤ f l) → X) → X
+by-least P f zero none some = none (λ k l. absurd (omega arith))
+by-least P f (suc n) none some =
+    by-bool (P n)
+    (λ e.
+    by-least P f n
+    (λ h. some n (omega arith) e
+    (λ l g q. by-eq l n (λ z. rw z (omega arith)) (λ z. not-both (P l) (h l (omega arith)) q)))
+    (λ k l q low. by-le (f k) (f n)
+    (λ a. some k (omega arith) q (λ j g r. by-eq j n (λ z. rw z a) (λ z. low j (omega arith) r)))
+    (λ a. some n (omega arith) e
+    (λ j g r. by-eq j n (λ z. rw z (omega arith)) (λ z. omega (arith, low j (omega arith) r))))))
+    (λ e.
+    by-least P f n
+    (λ h. none (λ j g. by-eq j n (λ z. ap P z ∙ e) (λ z. h j (omega arith))))
+    (λ k l q low. some k (omega arith) q
+    (λ j g r. by-eq j n (λ z. not-both (P j) (ap P z ∙ e) r) (λ z. low j (omega arith) r))))
 
 module _ (tb : Table) (p : Plan) (js : Jobs) (x : ℕ → ℕ) where
   -- (a) "an unfinished job that has executed more than C − length ticks"
@@ -84,120 +105,61 @@ module _ (tb : Table) (p : Plan) (js : Jobs) (x : ℕ → ℕ) where
   ahead-release l k e h =
       or-right (ltb (p .rank (js .row l)) (p .rank (js .row k))) _ (and-both _ _ (eq-eqb _ _ e) (lt-ltb _ _ h))
 
+  ahead-cases {ℓ} : {X : Type ℓ} (l k : ℕ) → ahead tb p js x l k ≡ true → (p .rank (js .row l) < p .rank (js .row k) → X) →
+      (js .row l ≡ js .row k → js .release l < js .release k → X) → X
+  ahead-cases l k e f g =
+      let same = eqb (js .row l) (js .row k) in
+      or-cases (ltb (p .rank (js .row l)) (p .rank (js .row k))) _ e
+      (λ h. f (ltb-true _ _ h))
+      (λ h. g (eqb-true _ _ (and-left same _ h)) (ltb-true _ _ (and-right same _ h)))
+
   pub leads-of : (t k : ℕ) → leads tb p js x t k ≡ true → Leads t k
   leads-of t k e =
-      let others : ℕ → Bool = λ l. pending tb p js x t l && ahead tb p js x l k in
-      let z = eqb (count others (js .N)) 0 in
-      let none = count-zero others (js .N) (eqb-true (count others (js .N)) 0
-      (and-right (pending tb p js x t k) z e)) in
+      let pending = pending tb p js x t in
+      let others : ℕ → Bool = λ l. pending l && ahead tb p js x l k in
+      let none = count-zero others (js .N) (eqb-true _ _ (and-right (pending k) _ e)) in
       let not : (l : ℕ) → l < js .N → Pending t l → ahead tb p js x l k ≡ true → ⊥ =
-      λ l h pe a. not-both (others l) (none l h)
-      (and-both (pending tb p js x t l) (ahead tb p js x l k) (pending-to t l pe) a) in
+      λ l h pe a. not-both (others l) (none l h) (and-both (pending l) _ (pending-to t l pe) a) in
       record {
-        pends = pending-of t k (and-left (pending tb p js x t k) z e);
-        highest = λ l h pe.
-            by-le (p .rank (js .row k)) (p .rank (js .row l)) (λ g. g) (λ g. absurd (not l h pe (ahead-rank l k g)));
-        earliest = λ l h pe r.
-            by-le (js .release k) (js .release l) (λ g. g) (λ g. absurd (not l h pe (ahead-release l k r g)));
+        pends = pending-of t k (and-left (pending k) _ e);
+        highest = λ l h pe. by-le _ _ (λ g. g) (λ g. absurd (not l h pe (ahead-rank l k g)));
+        earliest = λ l h pe r. by-le _ _ (λ g. g) (λ g. absurd (not l h pe (ahead-release l k r g)));
       }
 
   pub leads-to : (t k : ℕ) → Leads t k → leads tb p js x t k ≡ true
   leads-to t k h =
-      let others : ℕ → Bool = λ l. pending tb p js x t l && ahead tb p js x l k in
-      let z = count others (js .N) in
-      and-both (pending tb p js x t k) (eqb z 0) (pending-to t k (h .pends))
-      (eq-eqb z 0
-      (count-none others (js .N)
-      (λ l g.
-      by-bool (others l)
+      let pending = pending tb p js x t in
+      let others : ℕ → Bool = λ l. pending l && ahead tb p js x l k in
+      let none : (l : ℕ) → l < js .N → others l ≡ false =
+      λ l g. by-bool (others l)
       (λ e.
-      let pe = pending-of t l (and-left (pending tb p js x t l) (ahead tb p js x l k) e) in
-      let a = ltb (p .rank (js .row l)) (p .rank (js .row k)) in
-      let same = eqb (js .row l) (js .row k) in
-      let sooner = ltb (js .release l) (js .release k) in
-      or-cases a (same && sooner) (and-right (pending tb p js x t l) (ahead tb p js x l k) e)
-      (λ r. absurd (omega (arith, ltb-true (p .rank (js .row l)) (p .rank (js .row k)) r, h .highest l g pe)))
-      (λ r.
-      absurd (omega (
-        arith,
-        ltb-true (js .release l) (js .release k) (and-right same sooner r),
-        h .earliest l g pe (eqb-true (js .row l) (js .row k) (and-left same sooner r)),
-      ))))
-      (λ e. e))))
-
-  -- the foremost of the pending jobs below n, by rank and then by release
-  record Foremost (t n k : ℕ) : Type 0 where
-    is : k < n
-    pends : Pending t k
-    highest : (l : ℕ) → l < n → Pending t l → p .rank (js .row k) ≤ p .rank (js .row l)
-    earliest : (l : ℕ) → l < n → Pending t l → p .rank (js .row l) ≡ p .rank (js .row k) → js .release k ≤ js .release l
-
-  keep : (t n k : ℕ) → Foremost t n k → p .rank (js .row k) ≤ p .rank (js .row n) →
-      (p .rank (js .row n) ≡ p .rank (js .row k) → js .release k ≤ js .release n) → Foremost t (suc n) k
-  keep t n k f a b =
-      record {
-        is = omega (arith, f .is);
-        pends = f .pends;
-        highest = λ l h pe. by-eq l n (λ e. rw e a) (λ e. f .highest l (omega arith) pe);
-        earliest = λ l h pe. by-eq l n (λ e. rw e b) (λ e. f .earliest l (omega arith) pe);
-      }
-
-  take : (t n : ℕ) → Pending t n →
-      ((l : ℕ) → l < n → Pending t l → p .rank (js .row n) ≤ p .rank (js .row l)) →
-      ((l : ℕ) → l < n → Pending t l → p .rank (js .row l) ≡ p .rank (js .row n) → js .release n ≤ js .release l) →
-      Foremost t (suc n) n
-  take t n pe a b =
-      record {
-        is = omega arith;
-        pends = pe;
-        highest = λ l h pl. by-eq l n (λ e. rw e (omega arith)) (λ e. a l (omega arith) pl);
-        earliest = λ l h pl r. by-eq l n (λ e. rw e (omega arith)) (λ e. b l (omega arith) pl r);
-      }
-
-  foremost {ℓ} : {X : Type ℓ} (t n : ℕ) → (((l : ℕ) → l < n → Pending t l → ⊥) → X) → ((k : ℕ) → Foremost t n k → X) → X
-  foremost t zero f g = f (λ l h _. omega arith)
-  foremost t (suc n) f g =
-      by-bool (pending tb p js x t n)
-      (λ e.
-      let pe = pending-of t n e in
-      foremost t n
-      (λ none. g n (take t n pe (λ l h pl. absurd (none l h pl)) (λ l h pl _. absurd (none l h pl))))
-      (λ k fk.
-      by-le (p .rank (js .row k)) (p .rank (js .row n))
-      (λ a.
-      by-le (js .release k) (js .release n)
-      (λ b. g k (keep t n k fk a (λ _. b)))
-      (λ b.
-      by-eq (p .rank (js .row k)) (p .rank (js .row n))
-      (λ r.
-      g n
-      (take t n pe
-      (λ l h pl. omega (arith, fk .highest l h pl))
-      (λ l h pl q. omega (arith, fk .earliest l h pl (q ∙ sym r)))))
-      (λ r. g k (keep t n k fk a (λ q. absurd (r (sym q)))))))
-      (λ a.
-      g n
-      (take t n pe
-      (λ l h pl. omega (arith, fk .highest l h pl))
-      (λ l h pl q. absurd (omega (arith, fk .highest l h pl)))))))
-      (λ e.
-      let skip : Pending t n → ⊥ = λ pe. not-both (pending tb p js x t n) e (pending-to t n pe) in
-      foremost t n
-      (λ none. f (λ l h pl. by-eq l n (λ q. skip (subst (Pending t) q pl)) (λ q. none l (omega arith) pl)))
-      (λ k fk.
-      g k
-      (record {
-        is = omega (arith, fk .is);
-        pends = fk .pends;
-        highest = λ l h pl. by-eq l n (λ q. absurd (skip (subst (Pending t) q pl)))
-            (λ q. fk .highest l (omega arith) pl);
-        earliest = λ l h pl. by-eq l n (λ q. absurd (skip (subst (Pending t) q pl)))
-            (λ q. fk .earliest l (omega arith) pl);
-      })))
+      let pe = pending-of t l (and-left (pending l) _ e) in
+      ahead-cases l k (and-right (pending l) _ e)
+      (λ r. absurd (omega (arith, h .highest l g pe)))
+      (λ q r. absurd (omega (arith, h .earliest l g pe q))))
+      (λ e. e) in
+      and-both (pending k) _ (pending-to t k (h .pends)) (eq-eqb _ _ (count-none others (js .N) none))
 
   -- (c) nothing is pending
   abbrev pub Quiet : ℕ → Type 0
   Quiet t = (k : ℕ) → k < js .N → Pending t k → ⊥
+
+  -- otherwise some job leads: of the pending jobs, which are released by t, the one that has the least of
+  -- rank (t + 1) + release
+  quiet-or-leads {ℓ} : {X : Type ℓ} (t : ℕ) → (Quiet t → X) → ((k : ℕ) → k < js .N → Leads t k → X) → X
+  quiet-or-leads t f g =
+      let pending = pending tb p js x t in
+      let place : ℕ → ℕ = λ k. p .rank (js .row k) * suc t + js .release k in
+      by-least pending place (js .N)
+      (λ none. f (λ k l pe. not-both (pending k) (none k l) (pending-to t k pe)))
+      (λ k l e least.
+      let low : (j : ℕ) → j < js .N → Pending t j → place k ≤ place j = λ j h pj. least j h (pending-to t j pj) in
+      g k l (record {
+        pends = pending-of t k e;
+        highest = λ j h pj. by-le (p .rank (js .row k)) (p .rank (js .row j)) (λ a. a)
+            (λ a. absurd (omega (arith, low j h pj, mul-le-mul-right (suc t) a, pj .since)));
+        earliest = λ j h pj r. omega (arith, low j h pj, ap (λ i. p .rank i * suc t) r);
+      }))
 
   -- "At each tick, in this order: (a) ..; (b) otherwise ..; (c) otherwise the tick is idle."
   pub rule {ℓ} : {X : Type ℓ} (t : ℕ) →
@@ -207,25 +169,23 @@ module _ (tb : Table) (p : Plan) (js : Jobs) (x : ℕ → ℕ) where
       X
   unfolding pick
   rule t fa fb fc =
-      let A = runs-on tb p js x in
-      let B = leads tb p js x t in
       one-of-is _ (js .N) _
       (λ k l e q. fa k l q (runs-on-of k e))
       (λ none q.
-      let free : Free = λ k l h. not-both (A k) (none k l) (runs-on-to k h) in
-      one-of-is B (js .N) idle
+      let free : Free = λ k l h. not-both (runs-on tb p js x k) (none k l) (runs-on-to k h) in
+      one-of-is (leads tb p js x t) (js .N) idle
       (λ k l e r. fb k l (q ∙ r) free (leads-of t k e))
       (λ no r.
-      fc (q ∙ r) free
-      (foremost t (js .N) (λ h. h)
-      (λ k f.
-      not-both (B k) (no k (f .is))
-      (leads-to t k
-      (record {
-        pends = f .pends;
-        highest = f .highest;
-        earliest = λ l h pl e. f .earliest l h pl (ap (p .rank) e);
-      }))))))
+      quiet-or-leads t (fc (q ∙ r) free) (λ k l h. not-both (leads tb p js x t k) (no k l) (leads-to t k h))))
+
+  -- a job that is picked is picked by (a) or by (b)
+  pub rule-of {ℓ} : {X : Type ℓ} (t k : ℕ) → pick tb p js x t ≡ job k → (k < js .N → RunsOn k → X) →
+      (k < js .N → Free → Leads t k → X) → X
+  rule-of t k q fa fb =
+      rule t
+      (λ l h r a. let e : l ≡ k = cc in fa (omega arith) (subst RunsOn e a))
+      (λ l h r free a. let e : l ≡ k = cc in fb (omega arith) free (subst (Leads t) e a))
+      (λ r _ _. let z : _≡_ {A = ℕ} 0 1 = cc in absurd (omega arith))
 
   -- where nothing runs on and nothing is pending the tick is idle
   pub pick-idle : (t : ℕ) → Free → Quiet t → pick tb p js x t ≡ idle
