@@ -1,13 +1,14 @@
 -- Laws of the ticks that jobs have executed under the dispatch rule, over any job list.
 use Prim.Native.Nat.{ℕ, zero, suc, _+_, _-_, _≤_, _<_}
 use mathlib.Core.Path.{_≡_, refl, ap, _∙_, subst}
-use mathlib.Core.Bool.{true, false}
+use mathlib.Core.Bool.{Bool, true, false}
 use native.Mathlib.Omega.{arith}
 use native.Mathlib.Nat.{add-suc, add-zero}
-use borrow.Author.Tests.{ltb-true, eq-eqb, ne-eqb}
-use Rattle.counting.specs.Sum.{given}
-use Rattle.counting.proofs.Cases.{by-bool, by-le, by-eq, not-both}
-use Rattle.counting.proofs.Sum.{given-yes, given-no}
+use lib.Dec.{eqb}
+use borrow.Author.Tests.{le-ltb, eq-eqb, ne-eqb}
+use Rattle.counting.specs.Sum.{given, sum}
+use Rattle.counting.proofs.Cases.{by-le, by-eq, not-both}
+use Rattle.counting.proofs.Sum.{sum-ext, sum-add, sum-delta}
 use Rattle.tables.specs.Table.{Table}
 use Rattle.tables.specs.Plan.{Plan, WellFormed}
 use Rattle.tables.specs.Jobs.{Jobs, Lawful}
@@ -21,6 +22,18 @@ is-job idle k f g = g (λ q. let z : _≡_ {A = ℕ} 0 1 = cc in omega arith)
 picked-not : (c : Pick) (k : ℕ) → (c ≡ job k → ⊥) → picked c k ≡ false
 picked-not (job j) k h = ne-eqb j k (λ e. h (ap job e))
 picked-not idle k h = refl
+
+-- no job of the list is locked before it has executed
+abbrev pub Fresh : Table → Plan → Jobs → Type 0
+Fresh tb p js = (k : ℕ) → k < js .N → locked tb p (js .row k) 0 ≡ false
+
+pub fresh : (tb : Table) (p : Plan) (js : Jobs) → WellFormed tb p → Lawful tb js → Fresh tb p js
+fresh tb p js wf lawful k l =
+    le-ltb (tb .C (js .row k)) (0 + p .len (js .row k)) (omega (arith, wf .len-high (js .row k) (lawful .row k l)))
+
+given-suc : (b : Bool) (x : ℕ) → given b (suc x) ≡ given b x + given b 1
+given-suc true x = omega arith
+given-suc false x = omega arith
 
 module _ (tb : Table) (p : Plan) (js : Jobs) where
   abbrev pub E : ℕ → ℕ → ℕ
@@ -43,14 +56,13 @@ module _ (tb : Table) (p : Plan) (js : Jobs) where
 
   -- the job that runs executes one tick, and no other does
   pub executed-at : (t k : ℕ) → runs t ≡ job k → E (suc t) k ≡ suc (E t k)
-  executed-at t k q =
-      omega (arith, executed-step t k, given-yes (picked (runs t) k) 1 (ap (λ c. picked c k) q ∙ eq-eqb k k refl))
+  executed-at t k q = rw (executed-step t k, q, eq-eqb k k refl) (omega arith)
 
   pub executed-not : (t k : ℕ) → (runs t ≡ job k → ⊥) → E (suc t) k ≡ E t k
-  executed-not t k q = omega (arith, executed-step t k, given-no (picked (runs t) k) 1 (picked-not (runs t) k q))
+  executed-not t k q = rw (executed-step t k, picked-not (runs t) k q) (omega arith)
 
   -- it never falls, and rises by one a tick at most
-  pub executed-more : (d t k : ℕ) → E t k ≤ E (t + d) k
+  executed-more : (d t k : ℕ) → E t k ≤ E (t + d) k
   executed-more zero t k = rw (add-zero t) (omega arith)
   executed-more (suc d) t k = rw (add-suc t d) (omega (arith, executed-more d t k, executed-step (t + d) k))
 
@@ -67,18 +79,14 @@ module _ (tb : Table) (p : Plan) (js : Jobs) where
 
   -- what runs is a job of the list, and unfinished
   pub runs-left : (t k : ℕ) → runs t ≡ job k → (k < js .N) × (E t k < js .run k)
-  runs-left t k q =
-      R.rule tb p js (E t) t
-      (λ l h r a. let e : l ≡ k = cc in subst (λ z. (z < js .N) × (E t z < js .run z)) e (h, a .left))
-      (λ l h r _ a. let e : l ≡ k = cc in subst (λ z. (z < js .N) × (E t z < js .run z)) e (h, a .pends .left))
-      (λ r _ _. let z : _≡_ {A = ℕ} 0 1 = cc in absurd (omega arith))
+  runs-left t k q = R.rule-of tb p js (E t) t k q (λ l on. (l, on .left)) (λ l _ lead. (l, lead .pends .left))
 
   -- no job executes more than its run
   pub executed-run : (t k : ℕ) → E t k ≤ js .run k
   executed-run zero k = omega (arith, executed-zero k)
   executed-run (suc t) k =
       runs-job t k
-      (λ q. omega (arith, executed-at t k q, runs-left t k q .1))
+      (λ q. omega (arith, executed-at t k q, runs-left t k q))
       (λ q. omega (arith, executed-not t k q, executed-run t k))
 
   -- the tick in which a job goes past v
@@ -89,97 +97,90 @@ module _ (tb : Table) (p : Plan) (js : Jobs) where
       (λ a. runs-job t k
       (λ q. (t, omega arith, omega (arith, executed-at t k q), q))
       (λ q. absurd (omega (arith, executed-not t k q))))
-      (λ a. let r = crossing v t k a in (r .0, omega (arith, r .1), r .2, r .3))
+      (λ a. let r = crossing v t k a in (r .0, omega arith, r .2, r .3))
 
--- no job of the list is locked before it has executed
-abbrev pub Fresh : Table → Plan → Jobs → Type 0
-Fresh tb p js = (k : ℕ) → k < js .N → locked tb p (js .row k) 0 ≡ false
+  -- the ticks that the jobs of a class have executed before t
+  abbrev pub work : (ℕ → Bool) → ℕ → ℕ
+  work A t = sum (λ k. given (A k) (E t k)) (js .N)
 
-pub fresh : (tb : Table) (p : Plan) (js : Jobs) → WellFormed tb p → Lawful tb js → Fresh tb p js
-fresh tb p js wf lawful k l =
-    by-bool (locked tb p (js .row k) 0) (λ e. absurd
-    (omega (arith, ltb-true, wf .len-high (js .row k) (lawful .row k l)))) (λ e. e)
+  -- a tick in which a job runs is a tick of its classes
+  pub work-step : (A : ℕ → Bool) (t c : ℕ) → runs t ≡ job c → work A (suc t) ≡ work A t + given (A c) 1
+  work-step A t c q =
+      sum-ext (λ k. given (A k) (E (suc t) k)) (λ k. given (A k) (E t k) + given (eqb c k) (given (A c) 1)) (js .N)
+      (λ k l. by-eq c k
+      (λ e. rw (eq-eqb c k e, executed-at t k (q ∙ ap job e), e) (given-suc (A k) (E t k)))
+      (λ e. rw (ne-eqb c k e, executed-not t k (λ z. e (cc))) (omega arith)))
+      ∙ sum-add (λ k. given (A k) (E t k)) (λ k. given (eqb c k) (given (A c) 1)) (js .N)
+      ∙ ap (λ z. work A t + z) (sum-delta (given (A c) 1) c (js .N) (runs-left t c q .0))
 
-module _ (tb : Table) (p : Plan) (js : Jobs) (new : Fresh tb p js) where
-  pub locked-executed : (k e : ℕ) → k < js .N → locked tb p (js .row k) e ≡ true → 0 < e
-  locked-executed k zero l h = not-both (locked tb p (js .row k) 0) (new k l) h
-  locked-executed k (suc e) l h = omega arith
+  module _ (new : Fresh tb p js) where
+    abbrev On : ℕ → ℕ → Type 0
+    On t = R.RunsOn tb p js (E t)
 
-  -- a job that has executed was released before
-  pub released : (t k : ℕ) → 0 < E tb p js t k → js .release k < t
-  released zero k h = absurd (omega (arith, executed-zero tb p js k))
-  released (suc t) k h =
-      runs-job tb p js t k
-      (λ q.
-      R.rule tb p js (E tb p js t) t
-      (λ l a r on.
-      let e : l ≡ k = cc in
-      let z = subst (λ j. 0 < E tb p js t j) e (locked-executed l (E tb p js t l) a (on .held)) in
-      omega (arith, released t k z))
-      (λ l a r _ f. let e : l ≡ k = cc in omega (arith, subst (λ j. js .release j ≤ t) e (f .pends .since)))
-      (λ r _ _. let z : _≡_ {A = ℕ} 0 1 = cc in absurd (omega arith)))
-      (λ q. omega (arith, released t k (omega (arith, executed-not tb p js t k q))))
+    pub locked-executed : (k e : ℕ) → k < js .N → locked tb p (js .row k) e ≡ true → 0 < e
+    locked-executed k zero l h = not-both (locked tb p (js .row k) 0) (new k l) h
+    locked-executed k (suc e) l h = omega arith
 
-  -- what runs is pending
-  pub runs-pending : (t k : ℕ) → runs tb p js t ≡ job k → R.Pending tb p js (E tb p js t) t k
-  runs-pending t k q =
-      record {
-        since = omega (arith, released (suc t) k (omega (arith, executed-at tb p js t k q)));
-        left = runs-left tb p js t k q .1;
-      }
+    -- a job that has executed was released before
+    pub released : (t k : ℕ) → 0 < E t k → js .release k < t
+    released zero k h = absurd (omega (arith, executed-zero k))
+    released (suc t) k h =
+        runs-job t k
+        (λ q. R.rule-of tb p js (E t) t k q
+        (λ l on. omega (arith, released t k (locked-executed k (E t k) l (on .held))))
+        (λ _ _ lead. omega (arith, lead .pends .since)))
+        (λ q. omega (arith, released t k (omega (arith, executed-not t k q))))
 
-  -- one job at most is locked and unfinished: what is so after a tick ran in it
-  abbrev Once : ℕ → Type 0
-  Once t = (k l : ℕ) → k < js .N → l < js .N → R.RunsOn tb p js (E tb p js t) k → R.RunsOn tb p js (E tb p js t) l →
-      k ≡ l
+    -- what runs is pending
+    pub runs-pending : (t k : ℕ) → runs t ≡ job k → R.Pending tb p js (E t) t k
+    runs-pending t k q =
+        let since = released (suc t) k (omega (arith, executed-at t k q)) in
+        record { since = omega arith; left = runs-left t k q .1 }
 
-  ran-on : (t k : ℕ) → Once t → k < js .N → R.RunsOn tb p js (E tb p js (suc t)) k → runs tb p js t ≡ job k
-  ran-on t k once g a =
-      runs-job tb p js t k (λ q. q)
-      (λ q.
-      let s = executed-not tb p js t k q in
-      let b : R.RunsOn tb p js (E tb p js t) k =
-      record { left = omega (arith, a .left, s); held = subst (λ e. locked tb p (js .row k) e ≡ true) s (a .held) } in
-      R.rule tb p js (E tb p js t) t
-      (λ l h r c. r ∙ ap job (once l k h g c b))
-      (λ l h r free _. absurd (free k g b))
-      (λ r free _. absurd (free k g b)))
+    -- one job at most is locked and unfinished: what is so after a tick ran in it
+    abbrev Once : ℕ → Type 0
+    Once t = (k l : ℕ) → k < js .N → l < js .N → On t k → On t l → k ≡ l
 
-  pub runs-on-once : (t : ℕ) → Once t
-  runs-on-once zero k l g h a b =
-      absurd (omega (arith, executed-zero tb p js k, locked-executed k (E tb p js 0 k) g (a .held)))
-  runs-on-once (suc t) k l g h a b =
-      let e = ran-on t k (runs-on-once t) g a in
-      let f = ran-on t l (runs-on-once t) h b in
-      cc
+    on-runs : (t k : ℕ) → Once t → k < js .N → On t k → runs t ≡ job k
+    on-runs t k once g a =
+        R.rule tb p js (E t) t
+        (λ l h r b. r ∙ ap job (once l k h g b a))
+        (λ l h r free _. absurd (free k g a))
+        (λ r free _. absurd (free k g a))
 
-  -- and it runs
-  pub runs-on : (t k : ℕ) → k < js .N → R.RunsOn tb p js (E tb p js t) k → runs tb p js t ≡ job k
-  runs-on t k g a =
-      R.rule tb p js (E tb p js t) t
-      (λ l h r c. r ∙ ap job (runs-on-once t l k h g c a))
-      (λ l h r free _. absurd (free k g a))
-      (λ r free _. absurd (free k g a))
+    ran-on : (t k : ℕ) → Once t → k < js .N → On (suc t) k → runs t ≡ job k
+    ran-on t k once g a =
+        runs-job t k (λ q. q)
+        (λ q.
+        let s = executed-not t k q in
+        on-runs t k once g (record { left = omega (arith, a .left); held = rw s at (a .held) }))
 
-  -- of two jobs of a row the earlier released is finished before the later executes
-  pub in-order : (t k l : ℕ) → k < js .N → js .row k ≡ js .row l → js .release k < js .release l → 0 < E tb p js t l →
-      E tb p js t k ≡ js .run k
-  in-order zero k l g r d h = absurd (omega (arith, executed-zero tb p js l))
-  in-order (suc t) k l g r d h =
-      let more = executed-mono tb p js t (suc t) k (omega arith) in
-      let most = executed-run tb p js (suc t) k in
-      let before : 0 < E tb p js t l → E tb p js (suc t) k ≡ js .run k = λ y. omega (arith, in-order t k l g r d y) in
-      runs-job tb p js t l
-      (λ q.
-      R.rule tb p js (E tb p js t) t
-      (λ m a z on.
-      let e : m ≡ l = cc in
-      before (subst (λ j. 0 < E tb p js t j) e (locked-executed m (E tb p js t m) a (on .held))))
-      (λ m a z _ f₀.
-      let e : m ≡ l = cc in
-      let f = subst (R.Leads tb p js (E tb p js t) t) e f₀ in
-      by-le (js .run k) (E tb p js t k)
-      (λ y. omega arith)
-      (λ y. absurd (omega (arith, f .earliest k g (record { since = omega (arith, f .pends .since); left = y }) r))))
-      (λ z _ _. let o : _≡_ {A = ℕ} 0 1 = cc in absurd (omega arith)))
-      (λ q. before (omega (arith, executed-not tb p js t l q)))
+    pub runs-on-once : (t : ℕ) → Once t
+    runs-on-once zero k l g h a b = absurd (omega (arith, executed-zero k, locked-executed k (E 0 k) g (a .held)))
+    runs-on-once (suc t) k l g h a b =
+        let e = ran-on t k (runs-on-once t) g a in
+        let f = ran-on t l (runs-on-once t) h b in
+        cc
+
+    -- and it runs
+    pub runs-on : (t k : ℕ) → k < js .N → On t k → runs t ≡ job k
+    runs-on t k = on-runs t k (runs-on-once t)
+
+    -- of two jobs of a row the earlier released is finished before the later executes
+    pub in-order : (t k l : ℕ) → k < js .N → js .row k ≡ js .row l → js .release k < js .release l → 0 < E t l →
+        E t k ≡ js .run k
+    in-order zero k l g r d h = absurd (omega (arith, executed-zero l))
+    in-order (suc t) k l g r d h =
+        let more = executed-mono t (suc t) k (omega arith) in
+        let most = executed-run (suc t) k in
+        let before : 0 < E t l → E (suc t) k ≡ js .run k = λ y. omega (arith, in-order t k l g r d y) in
+        runs-job t l
+        (λ q. R.rule-of tb p js (E t) t l q
+        (λ a on. before (locked-executed l (E t l) a (on .held)))
+        (λ _ _ lead.
+        by-le (js .run k) (E t k)
+        (λ y. omega arith)
+        (λ y.
+        let since = lead .pends .since in
+        absurd (omega (arith, lead .earliest k g (record { since = omega arith; left = y }) r)))))
+        (λ q. before (omega (arith, executed-not t l q)))

@@ -8,7 +8,6 @@ use native.Mathlib.Omega.{arith}
 use native.Mathlib.Nat.{mul-le-mul-right}
 use lib.Dec.{eqb, ltb, leb}
 use borrow.Author.Tests.{lt-ltb, ltb-true, le-leb, leb-true, eq-eqb, eqb-true}
-use Rattle.counting.specs.Sum.{count}
 use Rattle.counting.proofs.Cases.{by-bool, by-le, by-eq, not-both, and-left, and-right, and-both}
 use Rattle.counting.proofs.Cases.{or-cases, or-left, or-right}
 use Rattle.counting.proofs.Sum.{count-zero, count-none}
@@ -69,8 +68,7 @@ module _ (tb : Table) (p : Plan) (js : Jobs) (x : ℕ → ℕ) where
 
   pub runs-on-of : (k : ℕ) → runs-on tb p js x k ≡ true → RunsOn k
   runs-on-of k e =
-      let u = unfinished tb p js x k in
-      record { left = ltb-true _ _ (and-left u _ e); held = and-right u _ e }
+      let u = unfinished tb p js x k in record { left = ltb-true _ _ (and-left u _ e); held = and-right u _ e }
 
   pub runs-on-to : (k : ℕ) → RunsOn k → runs-on tb p js x k ≡ true
   runs-on-to k h = and-both _ _ (lt-ltb _ _ (h .left)) (h .held)
@@ -105,8 +103,8 @@ module _ (tb : Table) (p : Plan) (js : Jobs) (x : ℕ → ℕ) where
   ahead-release l k e h =
       or-right (ltb (p .rank (js .row l)) (p .rank (js .row k))) _ (and-both _ _ (eq-eqb _ _ e) (lt-ltb _ _ h))
 
-  ahead-cases {ℓ} : {X : Type ℓ} (l k : ℕ) → ahead tb p js x l k ≡ true → (p .rank (js .row l) < p .rank (js .row k) → X) →
-      (js .row l ≡ js .row k → js .release l < js .release k → X) → X
+  ahead-cases {ℓ} : {X : Type ℓ} (l k : ℕ) → ahead tb p js x l k ≡ true →
+      (p .rank (js .row l) < p .rank (js .row k) → X) → (js .row l ≡ js .row k → js .release l < js .release k → X) → X
   ahead-cases l k e f g =
       let same = eqb (js .row l) (js .row k) in
       or-cases (ltb (p .rank (js .row l)) (p .rank (js .row k))) _ e
@@ -175,8 +173,7 @@ module _ (tb : Table) (p : Plan) (js : Jobs) (x : ℕ → ℕ) where
       let free : Free = λ k l h. not-both (runs-on tb p js x k) (none k l) (runs-on-to k h) in
       one-of-is (leads tb p js x t) (js .N) idle
       (λ k l e r. fb k l (q ∙ r) free (leads-of t k e))
-      (λ no r.
-      quiet-or-leads t (fc (q ∙ r) free) (λ k l h. not-both (leads tb p js x t k) (no k l) (leads-to t k h))))
+      (λ no r. quiet-or-leads t (fc (q ∙ r) free) (λ k l h. not-both (leads tb p js x t k) (no k l) (leads-to t k h))))
 
   -- a job that is picked is picked by (a) or by (b)
   pub rule-of {ℓ} : {X : Type ℓ} (t k : ℕ) → pick tb p js x t ≡ job k → (k < js .N → RunsOn k → X) →

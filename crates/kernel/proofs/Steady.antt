@@ -1,13 +1,13 @@
 -- The job that runs goes on running until it finishes or, where it is not locked, until a release: what a play from
 -- decision to decision rests on.
 use Prim.Native.Nat.{ℕ, zero, suc, _+_, _≤_, _<_}
-use mathlib.Core.Path.{_≡_, ap, sym, _∙_, subst}
+use mathlib.Core.Path.{_≡_, _∙_}
 use mathlib.Core.Bool.{true}
 use mathlib.Core.Logic.{_⊎_, ⊎-elim}
 use native.Mathlib.Omega.{arith}
 use native.Mathlib.Nat.{add-suc, add-zero}
 use borrow.Author.Tests.{ltb-true, ltb-false}
-use Rattle.counting.proofs.Cases.{by-bool, by-eq}
+use Rattle.counting.proofs.Cases.{by-bool, by-eq, not-both}
 use Rattle.tables.specs.Table.{Table, Sound}
 use Rattle.tables.specs.Plan.{Plan, WellFormed}
 use Rattle.tables.specs.Jobs.{Jobs, Lawful}
@@ -43,55 +43,33 @@ module _ (tb : Table) (p : Plan) (js : Jobs) (sound : Sound tb) (wf : WellFormed
   cl = X.runs-left tb p js t c is .0
 
   on : (x : ℕ) → x < d → After x → locked tb p (js .row c) (E t c + x) ≡ true → X.runs tb p js (t + x) ≡ job c
-  on x h a l =
-      X.runs-on tb p js new (t + x) c cl
-      (record { left = omega (arith, a .mine); held = rw (a .mine) l })
+  on x h a l = X.runs-on tb p js new (t + x) c cl (record { left = omega (arith, a .mine); held = rw (a .mine) l })
 
   -- a job that led at t and has no rival released since
   led : (x : ℕ) → x < d → After x → Calm js t x → R.Free tb p js (E t) → R.Leads tb p js (E t) t c →
       X.runs tb p js (t + x) ≡ job c
   led x h a quiet free lead =
       let u = t + x in
-      let pc : R.Pending tb p js (E u) u c = record {
-        since = omega (arith, lead .pends .since);
-        left = omega (arith, a .mine);
-      } in
-      R.rule tb p js (E u) u
-      (λ k kl q r.
-      q
-      ∙ ap job
-      (by-eq k c (λ e. e)
-      (λ ne.
-      let s = a .other k ne in
-      absurd (free k kl (record {
-        left = omega (arith, r .left);
-        held = subst (λ e. locked tb p (js .row k) e ≡ true) s (r .held);
-      })))))
-      (λ k kl q _ f.
-      q
-      ∙ ap job
-      (by-eq k c (λ e. e)
-      (λ ne.
-      let s = a .other k ne in
-      let pk : R.Pending tb p js (E t) t k =
-      record { since = quiet k kl (f .pends .since); left = omega (arith, f .pends .left) } in
-      let row : js .row k ≡ js .row c =
-      wf .once (js .row k) (js .row c) (lawful .row k kl) (lawful .row c cl)
-      (omega (arith, f .highest c cl pc, lead .highest k kl pk)) in
-      R.same-job tb js sound lawful k c kl cl row
-      (omega (arith, f .earliest c cl pc (sym row), lead .earliest k kl pk row)))))
-      (λ _ _ none. absurd (none c cl pc))
+      let back : (k : ℕ) → k < js .N → (k ≡ c → ⊥) → R.Pending tb p js (E u) u k → R.Pending tb p js (E t) t k =
+      λ k kl ne pk. record { since = quiet k kl (pk .since); left = rw (a .other k ne) at (pk .left) } in
+      by-bool (locked tb p (js .row c) (E t c + x)) (on x h a)
+      (λ no.
+      R.pick-leads tb p js sound wf lawful (E u) u c cl
+      (λ k kl r. by-eq k c
+      (λ e. not-both _ no (rw (e, a .mine) at (r .held)))
+      (λ ne. free k kl (record { left = rw (a .other k ne) at (r .left); held = rw (a .other k ne) at (r .held) })))
+      (record {
+        pends = record { since = omega (arith, lead .pends .since); left = omega (arith, a .mine) };
+        highest = λ k kl pk. by-eq k c (λ e. rw e (omega arith)) (λ ne. lead .highest k kl (back k kl ne pk));
+        earliest = λ k kl pk q. by-eq k c (λ e. rw e (omega arith)) (λ ne. lead .earliest k kl (back k kl ne pk) q);
+      }))
 
   goes-on : (x : ℕ) → x < d → After x → X.runs tb p js (t + x) ≡ job c
   goes-on x h a =
       ⊎-elim (on x h a)
-      (λ quiet.
-      R.rule tb p js (E t) t
-      (λ k kl q r.
-      let e : k ≡ c = cc in
-      on x h a (locked-on tb p (js .row c) (E t c) x (subst (λ j. locked tb p (js .row j) (E t j) ≡ true) e (r .held))))
-      (λ k kl q free f. let e : k ≡ c = cc in led x h a quiet free (subst (R.Leads tb p js (E t) t) e f))
-      (λ q _ _. let z : _≡_ {A = ℕ} 0 1 = cc in absurd (omega arith)))
+      (λ quiet. R.rule-of tb p js (E t) t c is
+      (λ _ r. on x h a (locked-on tb p (js .row c) (E t c) x (r .held)))
+      (λ _ free lead. led x h a quiet free lead))
       (calm x h)
 
   pub steady : (x : ℕ) → x ≤ d → After x
@@ -104,7 +82,3 @@ module _ (tb : Table) (p : Plan) (js : Jobs) (sound : Sound tb) (wf : WellFormed
         other = λ k ne.
             rw (add-suc t x) (X.executed-not tb p js (t + x) k (λ q. let e : k ≡ c = cc in ne e) ∙ a .other k ne);
       }
-
-  -- and in each of the d ticks c runs
-  pub stays : (x : ℕ) → x < d → X.runs tb p js (t + x) ≡ job c
-  stays x h = goes-on x h (steady x (omega arith))
