@@ -15,7 +15,7 @@ use Rattle.counting.specs.Up.{up}
 use Rattle.counting.specs.Sum.{given, sum}
 use Rattle.counting.proofs.Cases.{by-eq, by-le, by-bool}
 use Rattle.counting.proofs.Up.{up-suc, lt-up, up-le, le-up}
-use Rattle.counting.proofs.Sum.{given-yes, given-no, sum-ext, sum-shift}
+use Rattle.counting.proofs.Sum.{given-yes, given-no, sum-ext, sum-add, sum-shift}
 
 -- the numbers 0, .., m - 1 that pass, in order
 unfoldable pub keep : (ℕ → Bool) → ℕ → List ℕ
@@ -61,16 +61,12 @@ unfolding keep
 nth-is P zero k l = absurd (omega arith)
 nth-is P (suc m) k l =
     by-le (size P m) k
-    (λ h.
-    by-bool (P m)
+    (λ h. by-bool (P m)
     (λ e.
     let q : k ≡ size P m = omega (arith, size-in P m e) in
-    let r : nth P (suc m) k ≡ m = rw q (nth-new P m e) in
-    rw r (record { below = omega arith; ok = e }))
+    rw (q, nth-new P m e) (record { below = omega arith; ok = e }))
     (λ e. absurd (omega (arith, size-out P m e))))
-    (λ h.
-    let i = nth-is P m k h in
-    rw (nth-old P m k h) (record { below = omega (arith, i .below); ok = i .ok }))
+    (λ h. let i = nth-is P m k h in rw (nth-old P m k h) (record { below = omega arith; ok = i .ok }))
 
 -- the list rises
 pub nth-rises : (P : ℕ → Bool) (m k l : ℕ) → k < l → l < size P m → nth P m k < nth P m l
@@ -78,12 +74,10 @@ unfolding keep
 nth-rises P zero k l a b = absurd (omega arith)
 nth-rises P (suc m) k l a b =
     by-le (size P m) l
-    (λ h.
-    by-bool (P m)
+    (λ h. by-bool (P m)
     (λ e.
     let q : l ≡ size P m = omega (arith, size-in P m e) in
-    let r : nth P (suc m) l ≡ m = rw q (nth-new P m e) in
-    omega (arith, r, nth-old P m k (omega arith), nth-is P m k (omega arith) .below))
+    rw (q, nth-new P m e) (omega (arith, nth-old P m k (omega arith), nth-is P m k (omega arith))))
     (λ e. absurd (omega (arith, size-out P m e))))
     (λ h. omega (arith, nth-rises P m k l a h, nth-old P m k (omega arith), nth-old P m l h))
 
@@ -108,37 +102,20 @@ sum-keep P f (suc m) =
     by-bool (P m)
     (λ e.
     let q : size P (suc m) ≡ suc (size P m) = omega (arith, size-in P m e) in
-    omega (
-      arith,
-      ap (sum (λ k. f (nth P (suc m) k))) q,
-      old,
-      ap f (nth-new P m e),
-      given-yes (P m) (f m) e,
-      sum-keep P
-          f m,
-    ))
-    (λ e. omega (
-      arith,
-      ap (sum (λ k. f (nth P (suc m) k))) (size-out P m e),
-      old,
-      given-no (P m) (f m) e,
-      sum-keep P f
-          m,
-    ))
+    rw (e, q) (omega (arith, ap f (nth-new P m e), sum-keep P f m)))
+    (λ e. rw (e, size-out P m e) (omega (arith, sum-keep P f m)))
+
+pub sum-three : (f g h : ℕ → ℕ) (n : ℕ) → sum (λ k. f k + (g k + h k)) n ≡ sum f n + (sum g n + sum h n)
+sum-three f g h n = omega (arith, sum-add f (λ k. g k + h k) n, sum-add g h n)
 
 -- the number u n + h stands for tick u and row h
 pub sum-pairs : (g : ℕ → ℕ → ℕ) (n m : ℕ) → sum (λ c. g (c / n) (c % n)) (m * n) ≡ sum (λ u. sum (g u) n) m
 unfolding sum
 sum-pairs g n zero = rw (zero-mul n)
 sum-pairs g n (suc m) =
-    rw (suc-mul m n)
-    (omega (
-      arith,
-      sum-shift (λ c. g (c / n) (c % n)) (m * n) n,
-      sum-pairs g n m,
-      sum-ext (λ h. g ((m * n + h) / n) ((m * n + h) % n)) (g m) n
-          (λ h l. ap (λ u. g u ((m * n + h) % n)) (digits-div m l) ∙ ap (g m) (digits-mod m l)),
-    ))
+    let last = sum-ext (λ h. g ((m * n + h) / n) ((m * n + h) % n)) (g m) n
+    (λ h l. rw (digits-div m l, digits-mod m l)) in
+    rw (suc-mul m n) (omega (arith, sum-shift (λ c. g (c / n) (c % n)) (m * n) n, sum-pairs g n m))
 
 -- of y numbers from 0 on, y / d rounded up at least are multiples of d
 pub multiples : (d y : ℕ) → 0 < d → up y d ≤ sum (λ v. given (eqb (v % d) 0) 1) y
@@ -148,7 +125,7 @@ multiples d (suc y) p =
     by-eq (y % d) 0
     (λ q.
     let a : y / d ≤ up y d = le-of-mul-le-mul-right {k = d} (omega (arith, le-up y p, div-mul-le-self y d)) p in
-    omega (arith, multiples d y p, up-suc y p, given-yes (eqb (y % d) 0) 1 (eq-eqb (y % d) 0 q), a))
+    rw (eq-eqb (y % d) 0 q) (omega (arith, multiples d y p, up-suc y p)))
     (λ q. omega (arith, multiples d y p, up-suc y p, lt-up y (y / d) p (omega (arith, div-add-mod' y d))))
 
 -- two multiples are apart

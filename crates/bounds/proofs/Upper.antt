@@ -26,6 +26,7 @@ use Rattle.kernel.proofs.Rule as R
 use Rattle.kernel.proofs.Executed as X
 use Rattle.kernel.proofs.Steady as S
 use Rattle.kernel.proofs.Level as Lv
+use Rattle.bounds.proofs.Listing.{sum-three}
 use Rattle.bounds.proofs.Window as W
 
 -- a job below rank r is locked for no more ticks than the blocking
@@ -34,17 +35,11 @@ pub locked-short : (tb : Table) (p : Plan) (js : Jobs) → WellFormed tb p → L
     e + n ≤ js .run k → ((y : ℕ) → y < n → locked tb p (js .row k) (e + y) ≡ true) → n ≤ blocking tb p r
 locked-short tb p js wf lawful r k e n l h fits held =
     let i = js .row k in
-    let il = lawful .row k l in
     by-eq n 0
     (λ z. omega arith)
     (λ z.
-    omega (
-      arith,
-      ltb-true (tb .C i) (e + 0 + p .len i) (held 0 (omega arith)),
-      lawful .run-high k l,
-      longest-ge tb p r i il h,
-      blocking-is tb p r,
-    ))
+    let held₀ = ltb-true (tb .C i) (e + 0 + p .len i) (held 0 (omega arith)) in
+    omega (arith, lawful .run-high k l, longest-ge tb p r i (lawful .row k l) h, blocking-is tb p r))
 
 module _ (tb : Table) (sound : Sound tb) (p : Plan) (wf : WellFormed tb p) (js : Jobs) (lawful : Lawful tb js)
     (j : ℕ) (jl : j < js .N) where
@@ -98,11 +93,17 @@ module _ (tb : Table) (sound : Sound tb) (p : Plan) (wf : WellFormed tb p) (js :
   -- d busy ticks are d ticks executed, and B of them at most by jobs below the level
   level-work : (d : ℕ) → ((x : ℕ) → x < d → Busy (t₀ + x)) → work level t₀ + d ≤ work level (t₀ + d) + B
   level-work d b =
-      omega (
-        arith,
-        Lv.busy-work tb p js r t₀ d b,
-        Lv.lower-work tb p js r t₀ new B (locked-short tb p js wf lawful r) d b,
-      )
+      let below = Lv.lower-work tb p js r t₀ new B (locked-short tb p js wf lawful r) d b in
+      omega (arith, Lv.busy-work tb p js r t₀ d b)
+
+  -- what the level executes since t₀ is at most what its jobs do
+  each : (t : ℕ) (f : ℕ → ℕ) → ((k : ℕ) → k < js .N → p .rank (js .row k) ≤ r → E t k ≤ E t₀ k + f k) →
+      (k : ℕ) → k < js .N → given (level k) (E t k) ≤ given (level k) (E t₀ k) + f k
+  each t f h k l = by-bool (level k) (λ e. rw e (h k l (leb-true _ _ e))) (λ e. rw e (omega arith))
+
+  less : (t k x : ℕ) → p .rank (js .row k) ≤ r → E t k < E t₀ k + x →
+      given (level k) (E t k) < given (level k) (E t₀ k) + x
+  less t k x high h = rw (le-leb (p .rank (js .row k)) r high) h
 
   -- what job k may ask for if it is of the level and released in t₀, .., t₀ + x
   abbrev rows : ℕ → Bool
@@ -114,16 +115,13 @@ module _ (tb : Table) (sound : Sound tb) (p : Plan) (wf : WellFormed tb p) (js :
   share-in : (x k : ℕ) → p .rank (js .row k) ≤ r → t₀ ≤ js .release k → js .release k ≤ t₀ + x →
       share x k ≡ tb .C (js .row k)
   share-in x k high a b =
-      given-yes (rows (js .row k) && within x k) (tb .C (js .row k))
-      (and-both (rows (js .row k)) (within x k) (le-leb (p .rank (js .row k)) r high)
-      (W.within-to tb js lawful pos t₀ x k (record { from = a; upto = b })))
+      rw (le-leb (p .rank (js .row k)) r high, W.within-to tb js lawful pos t₀ x k (record { from = a; upto = b }))
 
   -- it has executed since t₀ only if it was released since
   grown : (t k x : ℕ) → t ≤ suc (t₀ + x) → k < js .N → p .rank (js .row k) ≤ r → E t k ≤ E t₀ k + share x k
   grown t k x h l high =
       by-le t₀ (js .release k)
-      (λ a.
-      by-eq (E t k) 0
+      (λ a. by-eq (E t k) 0
       (λ o. omega arith)
       (λ o.
       let since = X.released tb p js new t k (omega arith) in
@@ -143,20 +141,15 @@ module _ (tb : Table) (sound : Sound tb) (p : Plan) (wf : WellFormed tb p) (js :
     -- what the level asks for within it
     level-load : load upto tb rows (L - 1) + B ≤ L
     level-load =
-        omega (
-          arith,
-          act .holds,
-          act .low,
-          load-upto tb pos rows (L - 1),
-          load-mono tb rows (suc (L - 1)) L (omega (arith, act .low)),
-          active-side-is tb (above p r) B i L,
-          active-side-is tb (without rows i) B i L,
-          active-side-level tb rows B i L il (le-leb r r (omega arith)),
-          load-sub tb before (without rows i) (above p r)
-              (λ h l e. without-elim rows i h e (λ ne u.
-              by-eq (p .rank h) r (λ o. absurd (ne (wf .once h i l il o)))
-              (λ o. lt-ltb (p .rank h) r (omega (arith, leb-true (p .rank h) r u))))) L,
-        )
+        let others = load-sub tb before (without rows i) (above p r)
+        (λ h l e. without-elim rows i h e (λ ne u.
+        by-eq (p .rank h) r
+        (λ o. absurd (ne (wf .once h i l il o)))
+        (λ o. lt-ltb (p .rank h) r (omega (arith, leb-true (p .rank h) r u))))) L in
+        let whole = active-side-level tb rows B i L il (le-leb r r (omega arith)) in
+        let sides = active-side-is tb (without rows i) B i L in
+        let grows = load-mono tb rows (suc (L - 1)) L (omega (arith, act .low)) in
+        omega (arith, act .holds, act .low, active-side-is tb (above p r) B i L, load-upto tb pos rows (L - 1))
 
     -- the release lies within it
     soon : js .release j < t₀ + L
@@ -168,33 +161,11 @@ module _ (tb : Table) (sound : Sound tb) (p : Plan) (wf : WellFormed tb p) (js :
         let u = z .after t (omega arith) h in
         let k = u .job in
         let b : (x : ℕ) → x < L → Busy (t₀ + x) = λ x l. early (t₀ + x) (omega arith) (omega arith) in
-        let A : ℕ → ℕ = λ k. given (level k) (E t k) in
-        let G : ℕ → ℕ = λ k. given (level k) (E t₀ k) + share (L - 1) k in
-        let le : (k : ℕ) → k < js .N → A k ≤ G k =
-        λ k l. by-bool (level k)
-        (λ e. omega (
-          arith,
-          given-yes (level k) (E t k) e,
-          given-yes (level k) (E t₀ k) e,
-          grown t k (L - 1) (omega arith) l (leb-true (p .rank (js .row k)) r e),
-        ))
-        (λ e. omega (arith, given-no (level k) (E t k) e)) in
-        let e = le-leb (p .rank (js .row k)) r (u .high) in
-        let lt : A k < G k =
-        omega (
-          arith,
-          given-yes (level k) (E t k) e,
-          given-yes (level k) (E t₀ k) e,
-          short t k (L - 1) (omega (arith, u .before)) (u .is) (u .high) (u .left),
-        ) in
-        absurd (omega (
-          arith,
-          sum-lt A G (js .N) k le (u .is) lt,
-          sum-add (λ k. given (level k) (E t₀ k)) (share (L - 1)) (js .N),
-          W.window-load tb js lawful pos t₀ rows (L - 1),
-          level-load,
-          level-work L b,
-        )))
+        let le = each t (share (L - 1)) (λ k. grown t k (L - 1) (omega arith)) in
+        let lt = less t k (share (L - 1) k) (u .high) (short t k (L - 1) (omega arith) (u .is) (u .high) (u .left)) in
+        let sums = sum-lt _ _ (js .N) k le (u .is) lt in
+        let both = sum-add (λ k. given (level k) (E t₀ k)) (share (L - 1)) (js .N) in
+        absurd (omega (arith, W.window-load tb js lawful pos t₀ rows (L - 1), level-load, level-work L b)))
         (λ h. h)
 
   -- the jobs of the row released from t₀ on and before this one
@@ -211,20 +182,16 @@ module _ (tb : Table) (sound : Sound tb) (p : Plan) (wf : WellFormed tb p) (js :
 
   earlier-to : (k : ℕ) → Earlier k → earlier k ≡ true
   earlier-to k h =
-      let from = leb t₀ (js .release k) in
-      let until = ltb (js .release k) (js .release j) in
-      and-both (eqb (js .row k) i) (from && until) (eq-eqb (js .row k) i (h .row))
-      (and-both from until (le-leb t₀ (js .release k) (h .from)) (lt-ltb (js .release k) (js .release j) (h .until)))
+      and-both _ _ (eq-eqb _ _ (h .row)) (and-both _ _ (le-leb _ _ (h .from)) (lt-ltb _ _ (h .until)))
 
   earlier-of : (k : ℕ) → earlier k ≡ true → Earlier k
   earlier-of k e =
+      let own = eqb (js .row k) i in
       let from = leb t₀ (js .release k) in
-      let until = ltb (js .release k) (js .release j) in
-      let e′ = and-right (eqb (js .row k) i) (from && until) e in
       record {
-        row = eqb-true (js .row k) i (and-left (eqb (js .row k) i) (from && until) e);
-        from = leb-true t₀ (js .release k) (and-left from until e′);
-        until = ltb-true (js .release k) (js .release j) (and-right from until e′);
+        row = eqb-true _ _ (and-left own _ e);
+        from = leb-true _ _ (and-left from _ (and-right own _ e));
+        until = ltb-true _ _ (and-right from _ (and-right own _ e));
       }
 
   abbrev κ : ℕ
@@ -237,37 +204,22 @@ module _ (tb : Table) (sound : Sound tb) (p : Plan) (wf : WellFormed tb p) (js :
       let mine = W.mine tb js lawful pos t₀ i x₀ in
       let each : (k : ℕ) → k < js .N → given (earlier k) 1 + given (eqb j k) 1 ≤ given (mine k) 1 =
       λ k l.
-      let in-it : js .row k ≡ i → t₀ ≤ js .release k → js .release k ≤ js .release j → given (mine k) 1 ≡ 1 =
-      λ e a b.
-      given-yes (mine k) 1
-      (and-both (eqb (js .row k) i) (within x₀ k) (eq-eqb (js .row k) i e)
-      (W.within-to tb js lawful pos t₀ x₀ k (record { from = a; upto = omega (arith, z .upto) }))) in
+      let in-it : js .row k ≡ i → t₀ ≤ js .release k → js .release k ≤ js .release j → mine k ≡ true =
+      λ e a b. and-both _ _ (eq-eqb _ _ e)
+      (W.within-to tb js lawful pos t₀ x₀ k (record { from = a; upto = omega (arith, z .upto) })) in
       by-bool (earlier k)
       (λ e.
       let o = earlier-of k e in
-      omega (
-        arith,
-        given-yes (earlier k) 1 e,
-        given-no (eqb j k) 1 (ne-eqb j k (λ q. omega (arith, o .until, ap (js .release) q))),
-        in-it (o .row) (o .from) (omega (arith, o .until)),
-      ))
-      (λ e.
-      by-eq j k
-      (λ q. omega (
-        arith,
-        given-no (earlier k) 1 e,
-        given-yes (eqb j k) 1 (eq-eqb j k q),
-        in-it (ap (js .row) (sym q)) (omega (arith, z .upto, ap (js .release) q)) (omega (arith, ap (js .release) q)),
-      ))
-      (λ q. omega (arith, given-no (earlier k) 1 e, given-no (eqb j k) 1 (ne-eqb j k q)))) in
+      rw (e, ne-eqb j k (λ q. omega (arith, ap (js .release) q)), in-it (o .row) (o .from) (omega arith)) (omega arith))
+      (λ e. by-eq j k
+      (λ q.
+      let same = ap (js .release) q in
+      rw (e, eq-eqb j k q, in-it (ap (js .row) (sym q)) (omega (arith, z .upto)) (omega arith)) (omega arith))
+      (λ q. rw (e, ne-eqb j k q) (omega arith))) in
+      let le = sum-le _ _ (js .N) each in
+      let both = sum-add (λ k. given (earlier k) 1) (λ k. given (eqb j k) 1) (js .N) in
       let few : κ ≤ x₀ / tb .T i =
-      omega (
-        arith,
-        sum-le (λ k. given (earlier k) 1 + given (eqb j k) 1) (λ k. given (mine k) 1) (js .N) each,
-        sum-add (λ k. given (earlier k) 1) (λ k. given (eqb j k) 1) (js .N),
-        sum-delta 1 j (js .N) jl,
-        W.count-window tb js lawful pos t₀ i x₀ il,
-      ) in
+      omega (arith, sum-delta 1 j (js .N) jl, W.count-window tb js lawful pos t₀ i x₀ il) in
       omega (arith, mul-le-mul-right (tb .T i) few, div-mul-le-self x₀ (tb .T i))
 
   abbrev q : ℕ
@@ -297,30 +249,20 @@ module _ (tb : Table) (sound : Sound tb) (p : Plan) (wf : WellFormed tb p) (js :
         by-eq (js .row k) i
         (λ e.
         by-eq j k
-        (λ o′. omega (arith, given-yes (eqb j k) (E t₁ j) (eq-eqb j k o′), ap (E t₁) o′))
+        (λ o′. rw (eq-eqb j k o′) (omega (arith, ap (E t₁) o′)))
         (λ ne.
         by-le (js .release j) (js .release k)
         (λ g.
         by-eq (js .release j) (js .release k)
         (λ same. absurd (ne (R.same-job tb js sound lawful j k jl l (sym e) same)))
         (λ later. absurd (omega (arith, X.in-order tb p js new t₁ j k jl (sym e) (omega arith) (omega arith)))))
-        (λ g.
-        omega (
-          arith,
-          ap (λ n. n * tb .C i) (given-yes (earlier k) 1 (earlier-to k (record { row = e; from = a; until = g }))),
-          ap (tb .C) e,
-        ))))
+        (λ g. rw (earlier-to k (record { row = e; from = a; until = g })) (omega (arith, ap (tb .C) e)))))
         (λ e.
-        let ab : above p r (js .row k) ≡ true =
-        lt-ltb (p .rank (js .row k)) r
-        (by-eq (p .rank (js .row k)) r (λ o′. absurd (e (wf .once (js .row k) i (lawful .row k l) il o′)))
-        (λ o′. omega arith)) in
-        omega (
-          arith,
-          given-yes (above p r (js .row k) && within s k) (tb .C (js .row k))
-              (and-both (above p r (js .row k)) (within s k) ab
-              (W.within-to tb js lawful pos t₀ s k (record { from = a; upto = omega arith }))),
-        )))
+        let higher : p .rank (js .row k) < r =
+        by-eq (p .rank (js .row k)) r (λ o′. absurd (e (wf .once (js .row k) i (lawful .row k l) il o′)))
+        (λ o′. omega arith) in
+        let in-it = W.within-to tb js lawful pos t₀ s k (record { from = a; upto = omega arith }) in
+        rw (lt-ltb (p .rank (js .row k)) r higher, in-it) (omega arith)))
         (λ a. omega (arith, z .settled k l high a)))
 
     part-sum : sum part (js .N) ≤ load upto tb (above p r) s + κ * tb .C i + E t₁ j
@@ -330,44 +272,23 @@ module _ (tb : Table) (sound : Sound tb) (p : Plan) (wf : WellFormed tb p) (js :
         let f₁ : ℕ → ℕ = λ k. given (above p r (js .row k) && within s k) (tb .C (js .row k)) in
         let f₂ : ℕ → ℕ = λ k. given (earlier k) 1 * tb .C i in
         let f₃ : ℕ → ℕ = λ k. given (eqb j k) (E t₁ j) in
-        omega (
-          arith,
-          sum-add f₁ (λ k. f₂ k + f₃ k) N,
-          sum-add f₂ f₃ N,
-          W.window-load tb js lawful pos t₀ (above p r) s,
-          sum-mul (λ k. given (earlier k) 1) (tb .C i) N,
-          sum-delta (E t₁ j) j N jl,
-        )
+        let sums = sum-three f₁ f₂ f₃ N in
+        let higher = W.window-load tb js lawful pos t₀ (above p r) s in
+        omega (arith, sum-mul (λ k. given (earlier k) 1) (tb .C i) N, sum-delta (E t₁ j) j N jl)
 
     -- so by t₁ it is past C − length
     past : E t₁ j < js .run j → tb .C i < E t₁ j + q
     past f =
         let b : (x : ℕ) → x < suc s → Busy (t₀ + x) =
         λ x l. by-le (js .release j) (t₀ + x)
-        (λ h. record {
-          job = j;
-          is = jl;
-          high = omega arith;
-          pends = record { since = h; left = omega (arith, X.executed-mono tb p js (t₀ + x) t₁ j (omega arith)) };
-        })
+        (λ h.
+        let more = X.executed-mono tb p js (t₀ + x) t₁ j (omega arith) in
+        record { job = j; is = jl; high = omega arith; pends = record { since = h; left = omega arith } })
         (λ h. early (t₀ + x) (omega arith) h) in
-        omega (
-          arith,
-          level-work (suc s) b,
-          sum-le (λ k. given (level k) (E t₁ k)) (λ k. given (level k) (E t₀ k) + part k) (js .N)
-              (λ k l. by-bool (level k)
-              (λ e. omega (
-                arith,
-                given-yes (level k) (E t₁ k) e,
-                given-yes (level k) (E t₀ k) e,
-                part-bound f k l (leb-true (p .rank (js .row k)) r e),
-              ))
-              (λ e. omega (arith, given-no (level k) (E t₁ k) e))),
-          sum-add (λ k. given (level k) (E t₀ k)) part (js .N),
-          part-sum,
-          st .holds,
-          start-side-whole tb (above p r) B i q (suc κ) s (omega arith) (wf .len-high i il),
-        )
+        let le = sum-le _ _ (js .N) (each t₁ part (part-bound f)) in
+        let both = sum-add (λ k. given (level k) (E t₀ k)) part (js .N) in
+        let side = start-side-whole tb (above p r) B i q (suc κ) s (omega arith) (wf .len-high i il) in
+        omega (arith, level-work (suc s) b, part-sum, st .holds)
 
     -- and done by t₀ + s + length
     done : E (t₀ + s + q) j ≡ js .run j
@@ -386,28 +307,16 @@ module _ (tb : Table) (sound : Sound tb) (p : Plan) (wf : WellFormed tb p) (js :
         (λ x _. inl (S.locked-on tb p i (E t₁ j) x held)) d (omega arith) in
         omega (arith, after .mine, X.executed-mono tb p js (t₁ + d) u j (omega (arith, lawful .run-high j jl))))
 
--- demand 3, the upper bound
-pub in-time : (tb : Table) → Sound tb → (p : Plan) → WellFormed tb p → (js : Jobs) → Lawful tb js →
-    (k : ℕ) → k < js .N → (R : ℕ) → ResponseOf tb p (js .row k) R → executed tb p js (js .release k + R) k ≡ js .run k
-in-time tb sound p wf js lawful j jl R x =
-    let i = js .row j in
-    let r = p .rank i in
-    let B = blocking tb p r in
-    let il = lawful .row j jl in
-    let pos = sound-positive tb sound in
-    let L = x .period in
-    let z = Lv.last tb p js r (js .release j) in
-    let k = κ tb sound p wf js lawful j jl in
-    let apart = κ-apart tb sound p wf js lawful j jl in
-    let counts : k < jobs tb (above p r) B i L =
-    lt-up L k (pos .T i il) (omega (arith, apart, soon tb sound p wf js lawful j jl L (x .active), z .upto)) in
-    let s = start-exists tb (above p r) B i pos il (p .len i) (wf .len-low i il) (wf .len-high i il) L (x .active)
-    (suc k) (omega arith) counts in
-    let most = x .highest k (s .0 + p .len i) counts (record { start = s .0; starts = s .1; ends = refl }) in
-    let u = js .release j + R in
-    omega (
-      arith,
-      done tb sound p wf js lawful j jl (s .0) (s .1),
-      X.executed-run tb p js u j,
-      X.executed-mono tb p js (z .at + s .0 + p .len i) u j (omega (arith, most, apart, z .upto)),
-    )
+  -- demand 3, the upper bound
+  pub in-time : (R : ℕ) → ResponseOf tb p i R → E (js .release j + R) j ≡ js .run j
+  in-time R x =
+      let L = x .period in
+      let apart = κ-apart in
+      let counts : κ < jobs tb (above p r) B i L =
+      lt-up L κ (pos .T i il) (omega (arith, soon L (x .active), z .upto)) in
+      let s = start-exists tb (above p r) B i pos il q (wf .len-low i il) (wf .len-high i il) L (x .active)
+      (suc κ) (omega arith) counts in
+      let most = x .highest κ (s .0 + q) counts (record { start = s .0; starts = s .1; ends = refl }) in
+      let u = js .release j + R in
+      let more = X.executed-mono tb p js (t₀ + s .0 + q) u j (omega (arith, z .upto)) in
+      omega (arith, done (s .0) (s .1), X.executed-run tb p js u j)
