@@ -189,17 +189,21 @@ module _ (tb : Table) (p : Plan) (js : Jobs) (x : ℕ → ℕ) where
   pick-idle t free quiet =
       rule t (λ k l _ h. absurd (free k l h)) (λ k l _ _ h. absurd (quiet k l (h .pends))) (λ q _ _. q)
 
--- in a lawful list two jobs of one row released at one tick are one job
+-- in a lawful list two jobs of one row released less than T apart are one job
+pub near-job : (tb : Table) (js : Jobs) → Lawful tb js → (k l : ℕ) → k < js .N → l < js .N → js .row k ≡ js .row l →
+    js .release k < js .release l + tb .T (js .row k) → js .release l < js .release k + tb .T (js .row k) → k ≡ l
+near-job tb js lawful k l a b e c d =
+    let same = ap (tb .T) e in
+    by-eq k l (λ q. q)
+    (λ q. by-le k l
+    (λ h. absurd (⊎-elim (λ z. omega arith) (λ z. omega arith) (lawful .apart k l (omega arith) b e)))
+    (λ h. absurd (⊎-elim (λ z. omega arith) (λ z. omega arith) (lawful .apart l k h a (sym e)))))
+
 pub same-job : (tb : Table) (js : Jobs) → Sound tb → Lawful tb js → (k l : ℕ) → k < js .N → l < js .N →
     js .row k ≡ js .row l → js .release k ≡ js .release l → k ≡ l
 same-job tb js sound lawful k l a b e r =
-    by-eq k l (λ q. q)
-    (λ q. by-le k l (λ h. absurd (apart k l (omega arith) b e r)) (λ h. absurd (apart l k h a (sym e) (sym r))))
-  where
-    apart : (k l : ℕ) → k < l → l < js .N → js .row k ≡ js .row l → js .release k ≡ js .release l → ⊥
-    apart k l h b e r =
-        let t = sound .T (js .row k) (lawful .row k (omega arith)) .low in
-        ⊎-elim (λ z. omega arith) (λ z. omega arith) (lawful .apart k l h b e)
+    let some = sound .T (js .row k) (lawful .row k a) .low in
+    near-job tb js lawful k l a b e (omega arith) (omega arith)
 
 module _ (tb : Table) (p : Plan) (js : Jobs) (sound : Sound tb) (wf : WellFormed tb p) (lawful : Lawful tb js)
     (x : ℕ → ℕ) (t : ℕ) where
