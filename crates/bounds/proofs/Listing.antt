@@ -15,7 +15,7 @@ use Rattle.counting.specs.Up.{up}
 use Rattle.counting.specs.Sum.{given, sum}
 use Rattle.counting.proofs.Cases.{by-eq, by-le, by-bool}
 use Rattle.counting.proofs.Up.{up-suc, lt-up, up-le, le-up}
-use Rattle.counting.proofs.Sum.{given-yes, given-no, sum-ext, sum-add, sum-shift}
+use Rattle.counting.proofs.Sum.{sum-ext, sum-add, sum-shift}
 
 -- the numbers 0, .., m - 1 that pass, in order
 unfoldable pub keep : (ℕ → Bool) → ℕ → List ℕ

@@ -6,11 +6,11 @@ use mathlib.Core.Bool.{Bool, true, false, _&&_}
 use native.Mathlib.Omega.{arith}
 use native.Mathlib.Nat.{add-sub-cancel-left, mul-le-mul-right, mul-mod-left, le-of-mul-le-mul-right}
 use lib.Dec.{eqb, ltb}
-use borrow.Author.Tests.{lt-ltb, ltb-true, le-leb, eq-eqb, ne-eqb, eqb-true}
+use borrow.Author.Tests.{lt-ltb, le-ltb, ltb-true, le-leb, eq-eqb, ne-eqb, eqb-true}
 use Rattle.counting.specs.Sum.{given, sum}
-use Rattle.counting.proofs.Cases.{by-eq, by-le, by-bool, not-both, and-left, and-right}
+use Rattle.counting.proofs.Cases.{by-eq, by-le, not-both}
 use Rattle.counting.proofs.Up.{le-up}
-use Rattle.counting.proofs.Sum.{given-yes, given-no, sum-le, sum-add, sum-delta, sum-ge}
+use Rattle.counting.proofs.Sum.{given-yes, sum-le, sum-delta, sum-ge}
 use Rattle.tables.specs.Table.{Table, Sound}
 use Rattle.tables.specs.Plan.{Plan, WellFormed}
 use Rattle.tables.specs.Jobs.{Jobs, Lawful}
@@ -22,7 +22,9 @@ use Rattle.test.proofs.Plans.{blocking-is, longest-cases}
 use Rattle.kernel.specs.Rule.{job, locked, executed, Finishes}
 use Rattle.kernel.proofs.Rule as R
 use Rattle.kernel.proofs.Executed as X
+use Rattle.kernel.proofs.Finishing as F
 use Rattle.kernel.proofs.Level as Lv
+use Rattle.bounds.proofs.Listing.{sum-three}
 use Rattle.bounds.proofs.Worst as Wo
 use Rattle.bounds.proofs.Upper.{in-time}
 
@@ -88,67 +90,39 @@ module _ (tb : Table) (sound : Sound tb) (p : Plan) (wf : WellFormed tb p) (i : 
       part-le x k kl ej lead =
           let t = t₀ + x in
           let h = js .row k in
-          let ab = above p r h in
-          let by-now = ltb (js .release k) (t₀ + suc x) in
-          let own = eqb h i in
-          let sooner = ltb (js .release k) (t₀ + κ * tb .T i) in
-          let c = tb .C h in
+          let y = t₀ + κ * tb .T i in
           let jr = ap (p .rank) (J .row) in
-          -- a job of the level that is pending is not ahead of J, and one that is ahead of J has finished
-          let mine : p .rank h ≤ r → given (level k) (E t k) ≡ E t k =
-          λ a. given-yes (level k) (E t k) (le-leb (p .rank h) r a) in
-          let other : (h ≡ i → ⊥) → given (own && sooner) c ≡ 0 =
-          λ ne. by-bool (own && sooner) (λ e. absurd (ne (eqb-true h i (and-left own sooner e))))
-          (λ e. given-no (own && sooner) c e) in
-          let not-above : h ≡ i → given (ab && by-now) c ≡ 0 =
-          λ e. by-bool (ab && by-now)
-          (λ u. absurd (omega (arith, ltb-true (p .rank h) r (and-left ab by-now u), ap (p .rank) e)))
-          (λ u. given-no (ab && by-now) c u) in
+          let released = J .release in
+          let not-above = le-ltb r r (omega arith) in
+          let of-level = le-leb r r (omega arith) in
+          let by-now = t₀ + suc x in
+          -- a job that is not pending has finished
+          let finished : (E t k < js .run k → ⊥) → js .run k ≤ E t k =
+          λ no. by-le (js .run k) (E t k) (λ a. a) (λ a. absurd (no a)) in
           by-eq j k
           (λ e.
           let row : h ≡ i = ap (js .row) (sym e) ∙ J .row in
-          let at : js .release k ≡ t₀ + κ * tb .T i = ap (js .release) (sym e) ∙ J .release in
-          let not-sooner : given (own && sooner) c ≡ 0 =
-          by-bool (own && sooner)
-          (λ u. absurd (omega (arith, ltb-true (js .release k) (t₀ + κ * tb .T i) (and-right own sooner u))))
-          (λ u. given-no (own && sooner) c u) in
-          omega (
-            arith,
-            not-above row,
-            given-yes (eqb j k) (tb .C i - q) (eq-eqb j k e),
-            mine (omega (arith, ap (p .rank) row)),
-            ap (E t) e,
-          ))
-          (λ ne.
-          let not-j = given-no (eqb j k) (tb .C i - q) (ne-eqb j k ne) in
-          by-eq h i
-          (λ row.
-          let none = not-above row in
-          by-bool (own && sooner)
-          (λ u.
-          let first = ltb-true (js .release k) (t₀ + κ * tb .T i) (and-right own sooner u) in
-          let finished : js .run k ≤ E t k =
-          by-le (js .run k) (E t k) (λ a. a)
-          (λ a.
-          absurd (omega (
-            arith,
-            lead .earliest k kl (record { since = omega (arith, J .release, lead .pends .since); left = a })
-                (row ∙ sym (J .row)),
-            J .release,
-          ))) in
-          omega (arith, given-yes (own && sooner) c u, mine (omega (arith, ap (p .rank) row))))
-          (λ u. omega (arith, given-no (own && sooner) c u)))
-          (λ row.
-          let none = other row in
-          by-bool (ab && by-now)
-          (λ u.
-          let higher = ltb-true (p .rank h) r (and-left ab by-now u) in
-          let due = ltb-true (js .release k) (t₀ + suc x) (and-right ab by-now u) in
-          let finished : js .run k ≤ E t k =
-          by-le (js .run k) (E t k) (λ a. a)
-          (λ a. absurd (omega (arith, lead .highest k kl (record { since = omega arith; left = a })))) in
-          omega (arith, given-yes (ab && by-now) c u, mine (omega arith)))
-          (λ u. omega (arith, given-no (ab && by-now) c u))))
+          let at : js .release k ≡ y = ap (js .release) (sym e) ∙ J .release in
+          let not-sooner = le-ltb (js .release k) y (omega arith) in
+          rw (row, not-above, eq-eqb i i refl, not-sooner, eq-eqb j k e, of-level) (omega (arith, ap (E t) e)))
+          (λ ne. by-eq h i
+          (λ row. by-le y (js .release k)
+          (λ g. rw (row, not-above, eq-eqb i i refl, le-ltb (js .release k) y g, ne-eqb j k ne) (omega arith))
+          (λ g.
+          let since = lead .pends .since in
+          let own = row ∙ sym (J .row) in
+          let all = finished (λ a. omega (arith, lead .earliest k kl (record { since = omega arith; left = a }) own)) in
+          rw (row, not-above, eq-eqb i i refl, lt-ltb (js .release k) y g, ne-eqb j k ne, of-level)
+          (omega (arith, ap (tb .C) row))))
+          (λ row. rw (ne-eqb h i row, ne-eqb j k ne)
+          (by-le r (p .rank h)
+          (λ g. rw (le-ltb (p .rank h) r g) (omega arith))
+          (λ g. rw (lt-ltb (p .rank h) r g, le-leb (p .rank h) r (omega arith))
+          (by-le by-now (js .release k)
+          (λ b. rw (le-ltb (js .release k) by-now b) (omega arith))
+          (λ b.
+          let all = finished (λ a. omega (arith, lead .highest k kl (record { since = omega arith; left = a }))) in
+          rw (lt-ltb (js .release k) by-now b) (omega arith)))))))
 
       -- what rows of the level ask for before t₀ + y
       asks : (A : ℕ → Bool) → ((h : ℕ) → h < tb .n → A h ≡ true → p .rank h ≤ r) → (y : ℕ) → t₀ + y ≤ suc (t₀ + s) →
@@ -165,62 +139,43 @@ module _ (tb : Table) (sound : Sound tb) (p : Plan) (wf : WellFormed tb p) (i : 
           let f₃ : ℕ → ℕ = λ k. given (eqb j k) (tb .C i - q) in
           let own : ℕ → Bool = λ h. eqb h i in
           let y = κ * tb .T i in
-          let enough : κ ≤ before y (tb .T i) = le-of-mul-le-mul-right {k = tb .T i} (le-up y (pos .T i il))
-          (pos .T i il) in
-          omega (
-            arith,
-            sum-add f₁ (λ k. f₂ k + f₃ k) N,
-            sum-add f₂ f₃ N,
-            sum-delta (tb .C i - q) j N (J .is),
-            load-upto tb pos (above p r) x,
-            asks (above p r) (λ h _ a. omega (arith, ltb-true (p .rank h) r a)) (suc x) (omega arith),
-            asks own (λ h _ a. omega (arith, ap (p .rank) (eqb-true h i a))) y (omega arith),
-            load-part tb before own i y il (eq-eqb i i refl),
-            mul-le-mul-right (tb .C i) enough,
-          )
+          let enough = le-of-mul-le-mul-right {k = tb .T i} (le-up y (pos .T i il)) (pos .T i il) in
+          let higher = asks (above p r) (λ h _ a. omega (arith, ltb-true (p .rank h) r a)) (suc x) (omega arith) in
+          let sooner = asks own (λ h _ a. omega (arith, ap (p .rank) (eqb-true h i a))) y (omega arith) in
+          let one = load-part tb before own i y il (eq-eqb i i refl) in
+          let sums = sum-three f₁ f₂ f₃ N in
+          let times = mul-le-mul-right (tb .C i) enough in
+          omega (arith, sum-delta (tb .C i - q) j N (J .is), load-upto tb pos (above p r) x)
 
       -- no tick before t₀ + s takes J past C − length
       not-before : (t : ℕ) → t < t₀ + s → E t j ≡ tb .C i - q → X.runs tb p js t ≡ job j → ⊥
       not-before t h ej run =
           let cap = wf .len-high i il in
-          R.rule tb p js (E t) t
-          (λ k _ z on.
-          let e : k ≡ j = cc in
-          let l = subst (λ m. locked tb p (js .row m) (E t m) ≡ true) e (on .held) in
-          omega (
-            arith,
-            ltb-true (tb .C (js .row j)) (E t j + p .len (js .row j)) l,
-            ap (tb .C) (J .row),
-            ap (p .len) (J .row),
-          ))
-          (λ k _ z free lead₀.
-          let e : k ≡ j = cc in
-          let lead = subst (R.Leads tb p js (E t) t) e lead₀ in
+          R.rule-of tb p js (E t) t j run
+          (λ _ on.
+          let past = ltb-true (tb .C (js .row j)) (E t j + p .len (js .row j)) (on .held) in
+          omega (arith, ap (tb .C) (J .row), ap (p .len) (J .row)))
+          (λ _ free lead.
           let x = t - t₀ in
           let same : t₀ + x ≡ t = omega (arith, lead .pends .since, J .release) in
           let leadx : R.Leads tb p js (E (t₀ + x)) (t₀ + x) j = rw same lead in
           let ex : E (t₀ + x) j ≡ tb .C i - q = rw same ej in
-          let early =
-          start-prefix tb (above p r) B i pos il q (wf .len-low i il) cap (suc κ) s x st
-          (omega (
-            arith,
-            held t (omega arith) free,
-            sum-le (part x) (λ k. given (level k) (E (t₀ + x) k)) (js .N) (λ k kl. part-le x k kl ex leadx),
-            ap (work level) same,
-            part-ge x (omega arith),
-            Lv.work-most tb p js r t,
-            start-side-whole tb (above p r) B i q (suc κ) x (omega arith) cap,
-          )) in
+          let parts = sum-le (part x) _ (js .N) (λ k kl. part-le x k kl ex leadx) in
+          let side = start-side-whole tb (above p r) B i q (suc κ) x (omega arith) cap in
+          let below = held t (omega arith) free in
+          let most = Lv.work-most tb p js r t in
+          let early = start-prefix tb (above p r) B i pos il q (wf .len-low i il) cap (suc κ) s x st
+          (omega (arith, ap (work level) same, part-ge x (omega arith))) in
           omega arith)
-          (λ z _ _. let o : _≡_ {A = ℕ} 0 1 = cc in omega arith)
 
       -- so J is unfinished in the tick before t₀ + s + length
       late : E (t₀ + s + (q - 1)) j < js .run j
       late =
+          let slow = X.executed-slow tb p js (q - 1) (t₀ + s) j in
           by-le (js .run j) (E (t₀ + s + (q - 1)) j)
           (λ h.
           let c = X.crossing tb p js (tb .C i - q) (t₀ + s) j
-          (omega (arith, X.executed-slow tb p js (q - 1) (t₀ + s) j, J .run, wf .len-low i il, wf .len-high i il)) in
+          (omega (arith, J .run, wf .len-low i il, wf .len-high i il)) in
           absurd (not-before (c .0) (c .1) (c .2) (c .3)))
           (λ h. h)
 
@@ -268,19 +223,11 @@ module _ (tb : Table) (sound : Sound tb) (p : Plan) (wf : WellFormed tb p) (i : 
     alone zero h = X.executed-zero tb p jl (O .job)
     alone (suc t) h =
         let so-far = alone t (omega arith) in
-        let mine : (k : ℕ) → k < jl .N → X.runs tb p jl t ≡ job k → X.runs tb p jl t ≡ job (O .job) =
-        λ k kl e. e ∙ ap job (only k kl (omega (
-          arith,
-          X.runs-pending tb p jl (new (opens l) (opens-low l lt) t₀ κ s) t
-              k e .since,
-        ))) in
-        X.executed-at tb p jl t (O .job)
-        (R.rule tb p jl (D t) t
-        (λ k kl e _. mine k kl e)
-        (λ k kl e _ _. mine k kl e)
-        (λ _ _ quiet. absurd (quiet (O .job) (O .is)
-        (record { since = omega (arith, O .release); left = omega (arith, O .run) }))))
-        ∙ ap suc so-far
+        let c = F.pending-runs tb p jl t (O .job) (O .is)
+        (record { since = omega (arith, O .release); left = omega (arith, O .run) }) in
+        let since = X.runs-pending tb p jl (new (opens l) (opens-low l lt) t₀ κ s) t (c .0) (c .1) .since in
+        let one = only (c .0) (X.runs-left tb p jl t (c .0) (c .1) .0) (omega arith) in
+        X.executed-at tb p jl t (O .job) (c .1 ∙ ap job one) ∙ ap suc so-far
 
     blocked : Held (opens l) (opens-low l lt) t₀ κ s
     blocked t h free =
@@ -289,19 +236,11 @@ module _ (tb : Table) (sound : Sound tb) (p : Plan) (wf : WellFormed tb p) (i : 
         let spent : t₀ + B ≤ D t k =
         by-le (t₀ + B) (D t k) (λ a. a)
         (λ a.
-        absurd (free k (O .is)
-        (record {
-          left = omega (arith, O .run);
-          held =
-              subst (λ m. locked tb p m (D t k) ≡ true) (sym (O .row))
-              (subst (λ e. locked tb p l e ≡ true) (omega arith) (held (D t k - t₀) (omega arith)));
-        }))) in
+        let locks = subst (λ e. locked tb p l e ≡ true) (omega arith) (held (D t k - t₀) (omega arith)) in
+        absurd (free k (O .is) (record { left = omega (arith, O .run); held = rw (O .row) locks }))) in
         let below = Lv.lower tb p jl r in
-        omega (
-          arith,
-          sum-ge (λ k. given (below k) (D t k)) (jl .N) k (O .is),
-          given-yes (below k) (D t k) (lt-ltb r (p .rank (jl .row k)) (omega (arith, ap (p .rank) (O .row)))),
-        )
+        let lower = lt-ltb r (p .rank (jl .row k)) (omega (arith, ap (p .rank) (O .row))) in
+        omega (arith, sum-ge (λ k. given (below k) (D t k)) (jl .N) k (O .is), given-yes (below k) (D t k) lower)
 
   -- a lawful list, in the order that play asks for, in which a job of the row takes exactly R
   abbrev pub Exactly : ℕ → Type 0
@@ -324,11 +263,9 @@ module _ (tb : Table) (sound : Sound tb) (p : Plan) (wf : WellFormed tb p) (i : 
         let κ = x .job in
         let st = x .reached .starts in
         let cap = wf .len-high i il in
-        let room : κ * tb .T i ≤ s =
-        omega (
-          arith,
-          start-after tb (above p r) B i pos il q (wf .len-low i il) cap (x .period) (x .active) κ s (x .counts) st,
-        ) in
+        let some = wf .len-low i il in
+        let after = start-after tb (above p r) B i pos il q some cap (x .period) (x .active) κ s (x .counts) st in
+        let room : κ * tb .T i ≤ s = omega arith in
         let o = J opening low t₀ κ s st room held in (
           js opening low t₀ κ s,
           lawful opening low t₀ κ s,

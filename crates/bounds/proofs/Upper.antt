@@ -12,7 +12,7 @@ use borrow.Author.Tests.{lt-ltb, ltb-true, le-leb, leb-true, eq-eqb, ne-eqb, eqb
 use Rattle.counting.specs.Sum.{given, without, sum, count}
 use Rattle.counting.proofs.Cases.{by-bool, by-le, by-eq, and-left, and-right, and-both}
 use Rattle.counting.proofs.Up.{lt-up}
-use Rattle.counting.proofs.Sum.{given-yes, given-no, without-elim, sum-le, sum-lt, sum-add, sum-mul, sum-delta}
+use Rattle.counting.proofs.Sum.{without-elim, sum-le, sum-lt, sum-add, sum-mul, sum-delta}
 use Rattle.tables.specs.Table.{Table, Sound}
 use Rattle.tables.specs.Plan.{Plan, WellFormed}
 use Rattle.tables.specs.Jobs.{Jobs, Lawful}

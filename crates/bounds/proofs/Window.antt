@@ -1,16 +1,15 @@
 -- How much the jobs that are released in a window can ask for: no more than the load of their rows.
 use Prim.Native.Nat.{ℕ, _+_, _-_, _*_, _/_, _≤_, _<_}
-use mathlib.Core.Path.{_≡_, refl, ap, sym, _∙_}
+use mathlib.Core.Path.{_≡_, refl, sym, _∙_}
 use mathlib.Core.Bool.{Bool, true, false, _&&_}
-use mathlib.Core.Logic.{⊎-elim}
 use native.Mathlib.Omega.{arith}
-use native.Mathlib.Nat.{le-trans, mul-le-mul-right, div-mul-le-self, lt-div-mul-add}
+use native.Mathlib.Nat.{mul-le-mul-right, div-mul-le-self, lt-div-mul-add}
 use lib.Dec.{eqb, leb}
 use borrow.Author.Tests.{le-leb, leb-true, eq-eqb, ne-eqb, eqb-true}
 use Rattle.counting.specs.Sum.{given, sum, count}
-use Rattle.counting.proofs.Cases.{by-bool, by-le, by-eq, and-left, and-right, and-both}
+use Rattle.counting.proofs.Cases.{by-bool, by-eq, and-left, and-right, and-both}
 use Rattle.counting.proofs.Up.{div-mono}
-use Rattle.counting.proofs.Sum.{given-yes, given-no, sum-le, sum-ext, sum-zero, sum-mul, sum-swap, count-all}
+use Rattle.counting.proofs.Sum.{sum-le, sum-ext, sum-zero, sum-mul, sum-swap, count-all}
 use Rattle.tables.specs.Table.{Table}
 use Rattle.tables.specs.Jobs.{Jobs, Lawful}
 use Rattle.test.specs.Test.{upto, load}

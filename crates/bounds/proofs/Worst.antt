@@ -12,7 +12,7 @@ use borrow.Author.Tests.{lt-ltb, le-leb, leb-true, eq-eqb, ne-eqb, eqb-true}
 use Rattle.counting.specs.Sum.{given, sum}
 use Rattle.counting.proofs.Cases.{by-eq, by-le, by-bool, and-left, and-right, and-both}
 use Rattle.counting.proofs.Up.{div-mono}
-use Rattle.counting.proofs.Sum.{given-yes, given-no, sum-le, sum-mul, sum-more, sum-shift, sum-fubini}
+use Rattle.counting.proofs.Sum.{given-yes, sum-le, sum-mul, sum-more, sum-shift, sum-fubini}
 use Rattle.tables.specs.Table.{Table}
 use Rattle.tables.specs.Plan.{Plan}
 use Rattle.tables.specs.Jobs.{Jobs, Lawful}
@@ -58,32 +58,19 @@ module _ (tb : Table) (p : Plan) (r : ℕ) (opening : ℕ → Bool) (t₀ Z : �
     multiple : (u - t₀) % tb .T h ≡ 0
 
   often-to : (u h : ℕ) → Often u h → often u h ≡ true
-  often-to u h o =
-      let a = leb t₀ u in
-      let b = eqb ((u - t₀) % tb .T h) 0 in
-      and-both (rows h) (a && b) (le-leb (p .rank h) r (o .high))
-      (and-both a b (le-leb t₀ u (o .from)) (eq-eqb ((u - t₀) % tb .T h) 0 (o .multiple)))
+  often-to u h o = and-both _ _ (le-leb _ _ (o .high)) (and-both _ _ (le-leb _ _ (o .from)) (eq-eqb _ _ (o .multiple)))
 
   often-of : (u h : ℕ) → often u h ≡ true → Often u h
   often-of u h e =
-      let a = leb t₀ u in
-      let b = eqb ((u - t₀) % tb .T h) 0 in
-      let f = and-right (rows h) (a && b) e in
+      let f = and-right (rows h) _ e in
       record {
-        high = leb-true (p .rank h) r (and-left (rows h) (a && b) e);
-        from = leb-true t₀ u (and-left a b f);
-        multiple = eqb-true ((u - t₀) % tb .T h) 0 (and-right a b f);
+        high = leb-true _ _ (and-left (rows h) _ e);
+        from = leb-true _ _ (and-left (leb t₀ u) _ f);
+        multiple = eqb-true _ _ (and-right (leb t₀ u) _ f);
       }
 
-  record Once (u h : ℕ) : Type 0 where
-    tick : u ≡ 0
-    opens : opening h ≡ true
-
-  once-of : (u h : ℕ) → once u h ≡ true → Once u h
-  once-of u h e = record {
-    tick = eqb-true u 0 (and-left (eqb u 0) (opening h) e);
-    opens = and-right (eqb u 0) (opening h) e;
-  }
+  once-of : (u h : ℕ) → once u h ≡ true → (u ≡ 0) × (opening h ≡ true)
+  once-of u h e = (eqb-true _ _ (and-left (eqb u 0) _ e), and-right (eqb u 0) _ e)
 
   -- a row and a tick that are listed
   pub record Job (u h : ℕ) : Type 0 where
@@ -104,11 +91,10 @@ module _ (tb : Table) (p : Plan) (r : ℕ) (opening : ℕ → Bool) (t₀ Z : �
 
   pub level-job : (u h : ℕ) → h < tb .n → p .rank h ≤ r → (u - t₀) % tb .T h ≡ 0 → t₀ ≤ u → u < Z → Job u h
   level-job u h l high m from b =
-      job-of u h l b (or-left (often u h) (once u h) (often-to u h (record { high = high; from = from; multiple = m })))
+      job-of u h l b (or-left _ _ (often-to u h (record { high = high; from = from; multiple = m })))
 
   pub opening-job : (h : ℕ) → h < tb .n → opening h ≡ true → 0 < Z → Job 0 h
-  opening-job h l o b = job-of 0 h l b (or-right (often 0 h) (once 0 h)
-      (and-both (eqb 0 0) (opening h) (eq-eqb 0 0 refl) o))
+  opening-job h l o b = job-of 0 h l b (or-right (often 0 h) _ (and-both _ _ (eq-eqb 0 0 refl) o))
 
   -- The opening rows are of lower rank.
   module _ (pos : Positive tb) (some : 0 < tb .n) (low : (h : ℕ) → opening h ≡ true → r < p .rank h) where
@@ -120,14 +106,9 @@ module _ (tb : Table) (p : Plan) (r : ℕ) (opening : ℕ → Bool) (t₀ Z : �
         or-cases (often u h) (once u h) a
         (λ x.
         let ox = often-of u h x in
-        omega (
-          arith,
-          multiples-apart (tb .T h) (u - t₀) (v - t₀) (ox .multiple) (oy .multiple) (omega (arith, ox .from)),
-          ox .from,
-          oy .from,
-        ))
-        (λ x. absurd (omega (arith, low h (once-of u h x .opens), oy .high))))
-        (λ y. absurd (omega (arith, once-of v h y .tick)))
+        omega (arith, multiples-apart (tb .T h) (u - t₀) (v - t₀) (ox .multiple) (oy .multiple) (omega arith)))
+        (λ x. absurd (omega (arith, low h (once-of u h x .1)))))
+        (λ y. absurd (omega (arith, once-of v h y .0)))
 
     -- "Releases never fall along the list."
     pub worst-order : (k l : ℕ) → k < l → l < worst .N → worst .release k ≤ worst .release l
@@ -142,18 +123,12 @@ module _ (tb : Table) (p : Plan) (r : ℕ) (opening : ℕ → Bool) (t₀ Z : �
           apart = λ k l a b e.
               let c = nth listed most k in
               let d = nth listed most l in
+              let rises = nth-rises listed most k l a b in
               inl
               (here-apart (c / tb .n) (d / tb .n) (c % tb .n) (nth-is listed most k (omega arith) .ok)
               (subst (λ h. here (d / tb .n) h ≡ true) (sym e) (nth-is listed most l b .ok))
               (by-le (d / tb .n) (c / tb .n)
-              (λ g. absurd (omega (
-                arith,
-                nth-rises listed most k l a b,
-                mul-le-mul-right (tb .n) g,
-                div-add-mod' c (tb .n),
-                div-add-mod' d (tb .n),
-                e,
-              )))
+              (λ g. absurd (omega (arith, mul-le-mul-right (tb .n) g, div-add-mod' c (tb .n), div-add-mod' d (tb .n))))
               (λ g. g)));
         }
 
@@ -165,7 +140,7 @@ module _ (tb : Table) (p : Plan) (r : ℕ) (opening : ℕ → Bool) (t₀ Z : �
         let i = worst .row k in
         or-cases (often u i) (once u i) (nth-is listed most k l .ok)
         (λ e. absurd (omega (arith, often-of u i e .from)))
-        (λ e. let o = once-of u i e in (o .tick, o .opens))
+        (λ e. once-of u i e)
 
     -- what rows of the level ask for before t₀ + y
     pub worst-load : (A : ℕ → Bool) → ((h : ℕ) → h < tb .n → A h ≡ true → p .rank h ≤ r) → (y : ℕ) → t₀ + y ≤ Z →
@@ -176,26 +151,16 @@ module _ (tb : Table) (p : Plan) (r : ℕ) (opening : ℕ → Bool) (t₀ Z : �
         let n = tb .n in
         let f : ℕ → ℕ = λ c. given (A (c % n) && ltb (c / n) (t₀ + y)) (tb .C (c % n)) in
         let g : ℕ → ℕ → ℕ = λ u h. given (here u h) (given (A h && ltb u (t₀ + y)) (tb .C h)) in
-        omega (
-          arith,
-          sum-keep listed f most,
-          sum-pairs g n Z,
-          sum-fubini g Z n,
-          sum-le (λ h. given (A h) (before y (tb .T h) * tb .C h)) (λ h. sum (λ u. g u h) Z) n
-              (λ h l. by-bool (A h)
-              (λ a.
-              omega (
-                arith,
-                given-yes (A h) (before y (tb .T h) * tb .C h) a,
-                mul-le-mul-right (tb .C h) (multiples (tb .T h) y (pos .T h l)),
-                sum-mul (λ v. given (eqb (v % tb .T h) 0) 1) (tb .C h) y,
-                sum-le (λ v. given (eqb (v % tb .T h) 0) 1 * tb .C h) (λ v. g (t₀ + v) h) y
-                    (λ v b. each h v a (sub h l a) b),
-                sum-shift (λ u. g u h) t₀ y,
-                sum-more (λ u. g u h) (t₀ + y) Z fits,
-              ))
-              (λ a. omega (arith, given-no (A h) (before y (tb .T h) * tb .C h) a))),
-        )
+        let row : (h : ℕ) → h < n → given (A h) (before y (tb .T h) * tb .C h) ≤ sum (λ u. g u h) Z =
+        λ h l. by-bool (A h)
+        (λ a.
+        let often = mul-le-mul-right (tb .C h) (multiples (tb .T h) y (pos .T h l)) in
+        let times = sum-mul (λ v. given (eqb (v % tb .T h) 0) 1) (tb .C h) y in
+        let le = sum-le _ (λ v. g (t₀ + v) h) y (λ v b. each h v a (sub h l a) b) in
+        let all = sum-more (λ u. g u h) (t₀ + y) Z fits in
+        omega (arith, given-yes (A h) (before y (tb .T h) * tb .C h) a, sum-shift (λ u. g u h) t₀ y))
+        (λ a. rw a (omega arith)) in
+        omega (arith, sum-keep listed f most, sum-pairs g n Z, sum-fubini g Z n, sum-le _ _ n row)
       where
         each : (h v : ℕ) → A h ≡ true → p .rank h ≤ r → v < y →
             given (eqb (v % tb .T h) 0) 1 * tb .C h ≤ given (here (t₀ + v) h)
@@ -203,18 +168,8 @@ module _ (tb : Table) (p : Plan) (r : ℕ) (opening : ℕ → Bool) (t₀ Z : �
         each h v a high b =
             by-eq (v % tb .T h) 0
             (λ q.
-            let o : often (t₀ + v) h ≡ true =
-            often-to (t₀ + v) h (record {
-              high = high;
-              from = omega arith;
-              multiple = rw (add-sub-cancel-left t₀ v) q;
-            }) in
-            let inner = A h && ltb (t₀ + v) (t₀ + y) in
-            omega (
-              arith,
-              ap (λ z. z * tb .C h) (given-yes (eqb (v % tb .T h) 0) 1 (eq-eqb (v % tb .T h) 0 q)),
-              given-yes (here (t₀ + v) h) (given inner (tb .C h)) (or-left (often (t₀ + v) h) (once (t₀ + v) h) o),
-              given-yes inner (tb .C h) (and-both (A h) (ltb (t₀ + v) (t₀ + y)) a
-                  (lt-ltb (t₀ + v) (t₀ + y) (omega arith))),
-            ))
-            (λ q. omega (arith, ap (λ z. z * tb .C h) (given-no (eqb (v % tb .T h) 0) 1 (ne-eqb (v % tb .T h) 0 q))))
+            let u = t₀ + v in
+            let m : (u - t₀) % tb .T h ≡ 0 = rw (add-sub-cancel-left t₀ v) q in
+            let o = or-left _ (once u h) (often-to u h (record { high = high; from = omega arith; multiple = m })) in
+            rw (eq-eqb (v % tb .T h) 0 q, o, a, lt-ltb u (t₀ + y) (omega arith)) (omega arith))
+            (λ q. rw (ne-eqb (v % tb .T h) 0 q) (omega arith))
