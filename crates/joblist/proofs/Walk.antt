@@ -2,7 +2,7 @@
 -- earlier job.
 use Prim.Native.Nat.{ℕ, _+_, _≤_, _<_}
 use mathlib.Core.Path.{_≡_, refl, sym, ap}
-use mathlib.Core.Logic.{_⊎_, inl, inr, ⊎-elim}
+use mathlib.Core.Logic.{_⊎_, inl, inr}
 use mathlib.Core.List.{List}
 use native.Mathlib.Omega.{arith}
 use lib.ListN.{length, getD, set, replicate, length-set, length-replicate}
@@ -50,34 +50,26 @@ module _ {tb : Table} {js : Jobs} {k last : ℕ} {earliest : List ℕ} (w : Walk
   -- a release below the last one is below that of an earlier job
   pub falls : js .release k < last → AtFault tb js k
   falls h =
-      ⊎-elim
-      (λ e. absurd (omega arith))
-      (λ (f : (l : ℕ) × (l < k) × (js .release l ≡ last)). inr (f .0, f .1, inl (omega (arith, f .2))))
-      (w .of-job)
+      elim (w .of-job) [
+        | inl e ↦ absurd (omega arith)
+        | inr f ↦ inr (f .0, f .1, inl (omega arith))
+      ]
 
   -- a release below the row's earliest is too close to an earlier job of the row
   pub too-close : js .release k < getD earliest (js .row k) 0 → AtFault tb js k
   too-close h =
-      ⊎-elim
-      (λ e. absurd (omega arith))
-      (λ (f : (l : ℕ) × (l < k) × (js .row l ≡ js .row k) × (js .release l + tb .T (js .row l) ≡ getD earliest (js .row k) 0)).
-      inr (f .0, f .1, inr (f .2, omega (arith, f .3))))
-      (w .of-row (js .row k))
+      elim (w .of-row (js .row k)) [
+        | inl e ↦ absurd (omega arith)
+        | inr f ↦ inr (f .0, f .1, inr (f .2, omega arith))
+      ]
 
   -- job k keeps the rules by itself, and its release is no lower than either
   module _ (alone : KeepsAlone tb js k) (order : last ≤ js .release k)
       (apart : getD earliest (js .row k) 0 ≤ js .release k) where
     keeps : AtFault tb js k → ⊥
-    keeps f =
-        ⊎-elim
-        (λ b. b (alone .row, alone .soon, alone .run-low, alone .run-high))
-        (λ (g : (l : ℕ) × (l < k) × BreaksAgainst tb js l k).
-        ⊎-elim
-        (λ h. omega (arith, w .latest (g .0) (g .1)))
-        (λ (h : (js .row (g .0) ≡ js .row k) × (js .release k < js .release (g .0) + tb .T (js .row (g .0)))).
-        omega (arith, h .1, w .spaced (g .0) (g .1), ap (λ i. getD earliest i 0) (h .0)))
-        (g .2))
-        f
+    keeps (inl b) = b (alone .row, alone .soon, alone .run-low, alone .run-high)
+    keeps (inr (l, h, inl d)) = omega (arith, w .latest l h)
+    keeps (inr (l, h, inr d)) = omega (arith, d .1, w .spaced l h, ap (λ i. getD earliest i 0) (d .0))
 
     abbrev after : List ℕ
     after = set earliest (js .row k) (js .release k + tb .T (js .row k))
@@ -90,27 +82,18 @@ module _ {tb : Table} {js : Jobs} {k last : ℕ} {earliest : List ℕ} (w : Walk
           fine = λ l h f. by-eq l k (λ e. keeps (rw e at f)) (λ e. w .fine l (omega arith) f);
           latest = λ l h. by-eq l k (λ e. rw e (omega arith)) (λ e. omega (arith, w .latest l (omega arith)));
           of-job = inr (k, omega arith, refl);
-          spaced =
-              λ l h. by-eq l k
-              (λ e. rw e (rw same (omega arith)))
+          spaced = λ l h. by-eq l k
+              (λ e. rw (e, same) (omega arith))
               (λ e. by-eq (js .row l) (js .row k)
-              (λ q. rw q (rw same (omega (
-                arith,
-                w .spaced l (omega arith),
-                ap (λ i. getD earliest i 0) q,
-                ap (tb .T)
-                    q,
-              ))))
+              (λ q. rw (q, same) (omega (arith, rw q at (w .spaced l (omega arith)))))
               (λ q. rw (other (js .row l) q) (w .spaced l (omega arith))));
-          of-row =
-              λ i. by-eq i (js .row k)
+          of-row = λ i. by-eq i (js .row k)
               (λ q. inr (k, omega arith, sym q, rw q (sym same)))
               (λ q. rw (other i q)
-              (⊎-elim
-              (λ e. inl e)
-              (λ (f : (l : ℕ) × (l < k) × (js .row l ≡ i) × (js .release l + tb .T (js .row l) ≡ getD earliest i 0)).
-              inr (f .0, omega (arith, f .1), f .2, f .3))
-              (w .of-row i)));
+              (elim (w .of-row i) [
+                | inl e ↦ inl e
+                | inr f ↦ inr (f .0, omega arith, f .2, f .3)
+              ]));
         }
       where
         same : getD after (js .row k) 0 ≡ js .release k + tb .T (js .row k)
@@ -122,12 +105,11 @@ module _ {tb : Table} {js : Jobs} {k last : ℕ} {earliest : List ℕ} (w : Walk
 module _ {tb : Table} (js : List ℕ) {k last : ℕ} {earliest : List ℕ} (w : Walked tb (jobsOf js) k last earliest) where
   -- a job at fault that the walk comes to is the first
   pub first-fault : k < jobsOf js .N → AtFault tb (jobsOf js) k → job-rules tb js .hits k
-  first-fault h f =
-      record {
-        low = omega arith;
-        holds = (h, f);
-        least = λ u _ g. by-le k u (λ q. q) (λ q. absurd (w .fine u q (g .1)));
-      }
+  first-fault h f = record {
+    low = omega arith;
+    holds = (h, f);
+    least = λ u _ g. by-le k u (λ q. q) (λ q. absurd (w .fine u q (g .1)));
+  }
 
   -- past the last job there is none
   pub no-fault : k ≡ jobsOf js .N → Clear (job-rules tb js)

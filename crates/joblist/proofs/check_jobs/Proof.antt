@@ -1,15 +1,15 @@
 -- `check_jobs` meets its contract. The loop's invariant is `Walked`: no job before k is at fault, and what the walk
 -- keeps of them shows a fault of job k.
 use Prim.Native.Nat.{ℕ, _<_, _≤_, _*_, _-_}
-use mathlib.Core.Path.{refl, subst}
+use mathlib.Core.Path.{refl}
 use native.Mathlib.Omega.{arith}
 use borrow.Author.Needs.{needs}
 use borrow.Author.Tests.{not-true, not-false}
 use mathlib.Core.Logic.{inl}
 use Rattle.tables.specs.Refusal.{Clear}
 use Rattle.tables.specs.Checks.{jobs-shape, job-rules}
-use Rattle.tables.specs.inside.Checked.{Says}
 use Rattle.joblist.specs.inside.Listed.{KeepsAlone}
+use Rattle.tables.proofs.Checked.{says-yes, says-no}
 use Rattle.tables.proofs.Clear.{shape-of-jobs}
 use Rattle.tables.specs.Table.{Table, tableOf, most-rows}
 use mathlib.Core.List.{List}
@@ -43,9 +43,10 @@ module _ (h : tie.At-loop Inv-loop μ-loop) where
   shaped : Clear (jobs-shape js)
   shaped = shape-of-jobs js (omega (arith, h .before .before .if1 .left)) (h .before .if2 .left)
 
-  -- a job at fault is the first
-  faulty : k < jobsOf js .N → AtFault tb (jobsOf js) k → Clear (jobs-shape js) × job-rules tb js .hits k
-  faulty l f = (shaped, first-fault js (h .loop .inv .1) l f)
+-- a job at fault is the first
+faulty : (l : tie.In-loop Inv-loop μ-loop) → let h = l .before in AtFault (tb h) (jobsOf (js h)) (k h) →
+    Clear (jobs-shape (js h)) × job-rules (tb h) (js h) .hits (k h)
+faulty l f = (shaped (l .before), first-fault (js (l .before)) (l .before .loop .inv .1) (l .loop-test .taken) f)
 
 -- Its release is not below the last one.
 module _ (c : tie.Else4 Inv-loop μ-loop) where
@@ -58,28 +59,25 @@ module _ (c : tie.Else4 Inv-loop μ-loop) where
   -- it keeps the rules by itself, and its row has a place
   kept : KeepsAlone (tb on) (jobsOf (js on)) (k on) × (jobsOf (js on) .row (k on) < most-rows)
   kept =
-      let r = subst (λ r. Says r (KeepsAlone (tb on) (jobsOf (js on)) (k on)))
-      (not-false (e .before .keeps-alone .result) (e .if3 .left)) (e .before .keeps-alone .ensures) in
+      let a = e .before .keeps-alone in
+      let r = says-yes (a .result) (not-false (a .result) (e .if3 .left)) (a .ensures) in
       (r, omega (arith, s on .pre))
 
 returns-3 : tie.Need-returns-3 Inv-loop μ-loop
 returns-3 c =
-    let h = c .before .before .before in
-    let alone =
-    subst (λ r. Says r (KeepsAlone (tb h) (jobsOf (js h)) (k h)))
-    (not-true (c .before .keeps-alone .result) (c .if3 .taken)) (c .before .keeps-alone .ensures) in
-    faulty h (c .before .before .loop-test .taken)
-    (inl (λ b. alone (record { row = b .0; soon = b .1; run-low = b .2; run-high = b .3 })))
+    let a = c .before .keeps-alone in
+    let no = says-no (a .result) (not-true (a .result) (c .if3 .taken)) (a .ensures) in
+    faulty (c .before .before) (inl (λ b. no (record { row = b .0; soon = b .1; run-low = b .2; run-high = b .3 })))
 
 returns-4 : tie.Need-returns-4 Inv-loop μ-loop
 returns-4 c =
     let l = c .before .before .before .before .before in
-    faulty (l .before) (l .loop-test .taken) (falls (l .before .loop .inv .1) (c .if4 .taken))
+    faulty l (falls (l .before .loop .inv .1) (c .if4 .taken))
 
 returns-5 : tie.Need-returns-5 Inv-loop μ-loop
 returns-5 c =
     let l = c .before .before .before .before .before .before in
-    faulty (l .before) (l .loop-test .taken) (too-close (l .before .loop .inv .1) (c .if5 .taken))
+    faulty l (too-close (l .before .loop .inv .1) (c .if5 .taken))
 
 loop-again : tie.Need-loop-again Inv-loop μ-loop
 loop-again c =
