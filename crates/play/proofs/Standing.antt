@@ -78,8 +78,8 @@ next-on tb js wfj t u from next h came r =
           (λ e. omega (arith, r .waits (omega arith), wfj .order next k (omega arith) g));
     }
 
-module _ (tb : Table) (p : Plan) (js : Jobs) (sound : Sound tb) (wf : WellFormed tb p) (wfj : WellFormedJobs tb js)
-    (t next : ℕ) (head done out : ℕ → ℕ) (nx : Next js t next) (st : Standing tb p js t head done out) where
+module _ {tb : Table} {p : Plan} {js : Jobs} {t next : ℕ} {head done out : ℕ → ℕ} (sound : Sound tb)
+    (wf : WellFormed tb p) (wfj : WellFormedJobs tb js) (nx : Next js t next) (st : Standing tb p js t head done out) where
   abbrev E : ℕ → ℕ → ℕ
   E = X.E tb p js
 
@@ -336,19 +336,11 @@ module _ (tb : Table) (p : Plan) (js : Jobs) (sound : Sound tb) (wf : WellFormed
 
     pub stands-idle : next < js .N → Standing tb p js (js .release next) head done out
     stands-idle m =
+        let later = nx .later next (omega arith) m in
         let x = js .release next - t in
-        let e : (k : ℕ) → E (js .release next) k ≡ E t k =
-        λ k. ap (λ u. E u k) (let q : js .release next ≡ t + x = omega (arith, nx .later next (omega arith) m) in q)
-        ∙ idles m x (omega (arith, nx .later next (omega arith) m)) k in
-        record {
-          high = st .high;
-          own = st .own;
-          finishes = st .finishes;
-          over = λ k l g. e k ∙ st .over k l g;
-          now = λ k l g. e k ∙ st .now k l g;
-          left = st .left;
-          not-yet = λ k l g. e k ∙ st .not-yet k l g;
-        }
+        let same : t + x ≡ js .release next = omega arith in
+        let e : (k : ℕ) → E (js .release next) k ≡ E t k = λ k. rw same at (idles m x (omega arith) k) in
+        search (e, st .over, st .now, st .not-yet)
 
     -- and past the last release every job has finished
     pub all-played : next ≡ js .N → (k : ℕ) → k < js .N → Finishes tb p js k (out k)

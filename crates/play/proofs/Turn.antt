@@ -5,6 +5,7 @@ use mathlib.Core.Path.{_≡_, refl, ap, _∙_}
 use mathlib.Core.Logic.{_⊎_, inl, inr, ⊎-elim}
 use mathlib.Core.List.{List}
 use native.Mathlib.Omega.{arith}
+use borrow.Author.Needs.{needs}
 use lib.ListN.{length, getD, set, drop, replicate, length-set, length-replicate}
 use lib.Seq.{getD-set-same, getD-set-other, drop-set-lt}
 use lib.Dec.{leb}
@@ -125,28 +126,15 @@ module _ (tb : Table) (p : Plan) (js : Jobs) (sound : Sound tb) (wf : WellFormed
 
       turn-idle : next < js .N →
           Playing tb p js out₀ (js .release next) heads done out × Gained js next t (js .release next) heads heads
-      turn-idle m = (
-        record {
-          heads-places = pl .heads-places;
-          done-places = pl .done-places;
-          small = pl .small;
-          standing = S.stands-idle tb p js sound wf wfj t next (at heads) (at done) (at out) nx (pl .standing) none m;
-          whole = pl .whole;
-          rest = pl .rest;
-        },
-        record { later = omega (arith, nx .later next (omega arith) m); gain = inr (refl, m, omega arith) },
-      )
+      turn-idle m =
+          let st = S.stands-idle sound wf wfj nx (pl .standing) none m in
+          let later = nx .later next (omega arith) m in
+          (search needs, record { later = omega arith; gain = inr (refl, m, omega arith) })
 
       turn-last : js .N ≤ next → PlayGiven tb p js out₀ (js .N) out
       turn-last m =
-          record {
-            many = refl;
-            finishes =
-                S.all-played tb p js sound wf wfj t next (at heads) (at done) (at out) nx (pl .standing) none
-                (omega (arith, nx .high));
-            whole = pl .whole;
-            rest = pl .rest;
-          }
+          let all = S.all-played sound wf wfj nx (pl .standing) none (omega (arith, nx .high)) in
+          search needs
 
     -- row i's head runs
     module _ (il : i < tb .n) where
@@ -160,17 +148,14 @@ module _ (tb : Table) (p : Plan) (js : Jobs) (sound : Sound tb) (wf : WellFormed
       head-within = omega (arith, fm .waits il, nx .high)
 
       head-left : at done i < js .run c
-      head-left = S.left-head tb p js sound wf wfj t next (at heads) (at done) (at out) nx (pl .standing) i il
-          (fm .waits il) first
+      head-left = S.left-head sound wf wfj nx (pl .standing) i il (fm .waits il) first
 
       head-in-time : t + (js .run c - at done i) ≤ last-release + most-jobs * most
-      head-in-time = S.in-time tb p js sound wf wfj t next (at heads) (at done) (at out) nx (pl .standing) i il
-          (fm .waits il) first
+      head-in-time = S.in-time sound wf wfj nx (pl .standing) i il (fm .waits il) first
 
       head-small : js .run c ≤ most
       head-small =
-          let r = wfj .lawful .row c head-within in
-          omega (arith, wfj .lawful .run-high c head-within, sound .C (js .row c) r .high)
+          omega (arith, wfj .lawful .run-high c head-within, sound .C (js .row c) (wfj .lawful .row c head-within))
 
       module _ (d : ℕ) (stretch : Stretch js next t (js .run c - at done i) (locked tb p i (at done i)) d) where
         abbrev e : ℕ
@@ -185,7 +170,7 @@ module _ (tb : Table) (p : Plan) (js : Jobs) (sound : Sound tb) (wf : WellFormed
             small = λ j l. by-eq j i (λ q. rw (q, same) (omega (arith, head-small)))
                 (λ q. rw (other j q) (pl .small j l));
             standing =
-                S.stands-on tb p js sound wf wfj t next (at heads) (at done) (at out) nx (pl .standing) i il
+                S.stands-on sound wf wfj nx (pl .standing) i il
                 (fm .waits il) first d stretch
                 (at (set done i (e + d))) h same other;
             whole = pl .whole;
@@ -216,7 +201,7 @@ module _ (tb : Table) (p : Plan) (js : Jobs) (sound : Sound tb) (wf : WellFormed
             done-places = simp length-set (pl .done-places);
             small = λ j l. by-eq j i (λ q. rw (q, done-same) (omega arith)) (λ q. rw (done-other j q) (pl .small j l));
             standing =
-                S.stands-after tb p js sound wf wfj t next (at heads) (at done) (at out) nx (pl .standing) i il
+                S.stands-after sound wf wfj nx (pl .standing) i il
                 (fm .waits il) first d stretch
                 (at (set heads i k)) (at (set done i 0)) (at (set out c (t + d)))
                 (omega (arith, stretch .within, head-left)) follows heads-other done-same done-other
@@ -228,7 +213,7 @@ module _ (tb : Table) (p : Plan) (js : Jobs) (sound : Sound tb) (wf : WellFormed
           record {
             later = omega arith;
             gain =
-                inl (S.fewer tb p js sound wf wfj t next (at heads) (at done) (at out) nx (pl .standing) i il
+                inl (S.fewer sound wf wfj nx (pl .standing) i il
                 (fm .waits il) first d stretch
                 (at (set heads i k)) follows heads-other);
           },
