@@ -72,14 +72,14 @@ next-on tb js wfj t u from next h came r =
     record {
       high = r .high;
       came = λ k l. by-le from k (λ g. r .came k g l) (λ g. omega (arith, came k g));
-      later =
-          λ k l g. by-eq k next
+      later = λ k l g. by-eq k next
           (λ e. rw e (r .waits (omega arith)))
           (λ e. omega (arith, r .waits (omega arith), wfj .order next k (omega arith) g));
     }
 
 module _ {tb : Table} {p : Plan} {js : Jobs} {t next : ℕ} {head done out : ℕ → ℕ} (sound : Sound tb)
-    (wf : WellFormed tb p) (wfj : WellFormedJobs tb js) (nx : Next js t next) (st : Standing tb p js t head done out) where
+    (wf : WellFormed tb p) (wfj : WellFormedJobs tb js) (nx : Next js t next)
+    (st : Standing tb p js t head done out) where
   abbrev E : ℕ → ℕ → ℕ
   E = X.E tb p js
 
@@ -146,24 +146,17 @@ module _ {tb : Table} {p : Plan} {js : Jobs} {t next : ℕ} {head done out : ℕ
     free h k l on =
         let r = running k l on in
         let u = first (js .row k) (row k l) (omega (arith, r .0, r .1)) in
-        let z = urgency-held tb p (js .row k) (done (js .row k))
-        (subst (λ e. locked tb p (js .row k) e ≡ true) (st .now k l (r .0)) (on .held)) in
+        let z = urgency-held tb p (js .row k) (done (js .row k)) (rw (st .now k l (r .0)) at (on .held)) in
         omega (arith, urgency-free tb p i (done i) h, wf .rank-low i il)
 
     leads : locked tb p i (done i) ≡ false → R.Leads tb p js (E t) t c
     leads h =
         record {
           pends = record { since = nx .came c waits; left = omega (arith, executed-head, left-head) };
-          highest =
-              λ k l pe. subst (λ r. p .rank r ≤ p .rank (js .row k)) (sym mine)
-              (omega (
-                arith,
-                first (js .row k) (row k l) (waiting k l pe),
-                urgency-free tb p i (done i) h,
-                urgency-rank tb p (js .row k) (done (js .row k)),
-              ));
-          earliest =
-              λ k l pe e.
+          highest = λ k l pe.
+              let u = first (js .row k) (row k l) (waiting k l pe) in
+              rw mine (omega (arith, urgency-free tb p i (done i) h, urgency-rank tb p (js .row k) (done (js .row k))));
+          earliest = λ k l pe e.
               let g : c ≤ k = omega (arith, unfinished k l (pe .left), ap head (e ∙ mine)) in
               by-eq c k (λ q. rw (← q) (omega arith)) (λ q. wfj .order c k (omega arith) l);
         }
@@ -172,12 +165,9 @@ module _ {tb : Table} {p : Plan} {js : Jobs} {t next : ℕ} {head done out : ℕ
     pub runs-head : X.runs tb p js t ≡ job c
     runs-head =
         by-bool (locked tb p i (done i))
-        (λ h. X.runs-on tb p js fresh t c cl
-        (record {
-          left = omega (arith, executed-head, left-head);
-          held = subst (λ r. locked tb p r (E t c) ≡ true) (sym mine)
-              (subst (λ e. locked tb p i e ≡ true) (sym executed-head) h);
-        }))
+        (λ h.
+        let held : locked tb p (js .row c) (E t c) ≡ true = rw (mine, executed-head) h in
+        X.runs-on tb p js fresh t c cl (record { left = omega (arith, executed-head, left-head); held = held }))
         (λ h. R.pick-leads tb p js sound wf (wfj .lawful) (E t) t c cl (free h) (leads h))
 
     -- what is left to it lies within the last tick of play
@@ -188,29 +178,25 @@ module _ {tb : Table} {p : Plan} {js : Jobs} {t next : ℕ} {head done out : ℕ
         let b = left-head in
         by-le (f .0) t
         (λ h. absurd (omega (arith, X.executed-mono tb p js (f .0) t c h, f .1 .finished, executed-head)))
-        (λ h. omega (
-          arith,
-          X.executed-slow tb p js x t c,
-          subst (λ u. E u c ≡ js .run c) (let q : f .0 ≡ t + x = omega arith in q) (f .1 .finished),
-          executed-head,
-          f .2,
-        ))
+        (λ h.
+        let q : f .0 ≡ t + x = omega arith in
+        omega (arith, X.executed-slow tb p js x t c, rw q at (f .1 .finished), executed-head))
 
     -- A decision runs its head for d ticks.
     module _ (d : ℕ) (stretch : Stretch js next t (js .run c - done i) (locked tb p i (done i)) d) where
       calm : (x : ℕ) → x < d → (locked tb p (js .row c) (E t c + x) ≡ true) ⊎ S.Calm js t x
       calm x h =
           by-bool (locked tb p i (done i))
-          (λ e. inl (subst (λ r. locked tb p r (E t c + x) ≡ true) (sym mine)
-          (S.locked-on tb p i (E t c) x (subst (λ e. locked tb p i e ≡ true) (sym executed-head) e))))
+          (λ e. inl (rw (mine, executed-head) (S.locked-on tb p i (done i) x e)))
           (λ e. inr (λ k l g. by-le next k
           (λ q. absurd (omega (arith, stretch .calm e (omega arith), to-come k q l)))
           (λ q. nx .came k q)))
 
-      after : (x : ℕ) → x ≤ d → S.After tb p js sound wf (wfj .lawful) t c d runs-head
-          (omega (arith, executed-head, left-head, stretch .within)) calm x
-      after = S.steady tb p js sound wf (wfj .lawful) t c d runs-head
-          (omega (arith, executed-head, left-head, stretch .within)) calm
+      room : E t c + d ≤ js .run c
+      room = omega (arith, executed-head, left-head, stretch .within)
+
+      after : (x : ℕ) → x ≤ d → S.After tb p js sound wf (wfj .lawful) t c d runs-head room calm x
+      after = S.steady tb p js sound wf (wfj .lawful) t c d runs-head room calm
 
       -- the job is not finished: it has executed d ticks more
       pub stands-on : (done′ : ℕ → ℕ) → done i + d < js .run c → done′ i ≡ done i + d →
@@ -223,12 +209,10 @@ module _ {tb : Table} {p : Plan} {js : Jobs} {t next : ℕ} {head done out : ℕ
             own = st .own;
             finishes = st .finishes;
             over = λ k l g. a .other k (no-head k (λ q. omega arith)) ∙ st .over k l g;
-            now =
-                λ k l g. by-eq (js .row k) i
-                (λ e. rw (is k l g e) (a .mine ∙ ap (λ x. x + d) executed-head ∙ sym at ∙ ap done′ (sym mine)))
+            now = λ k l g. by-eq (js .row k) i
+                (λ e. rw (is k l g e, mine, at) (omega (arith, a .mine, executed-head)))
                 (λ e. a .other k (elsewhere k e) ∙ st .now k l g ∙ sym (off (js .row k) e));
-            left =
-                λ k l g. by-eq (js .row k) i
+            left = λ k l g. by-eq (js .row k) i
                 (λ e. omega (arith, ap done′ e, at, ap (js .run) (is k l g e)))
                 (λ e. rw (off (js .row k) e) (st .left k l g));
             not-yet = λ k l g. a .other k (no-head k (λ q. omega arith)) ∙ st .not-yet k l g;
@@ -241,54 +225,37 @@ module _ {tb : Table} {p : Plan} {js : Jobs} {t next : ℕ} {head done out : ℕ
       stands-after head′ done′ out′ h fol hoff at doff new old =
           let a = after d (omega arith) in
           let b = after (d - 1) (omega arith) in
-          let u = t + (d - 1) in
-          let su : t + d ≡ suc u = omega (arith, stretch .some) in
+          let done-head = executed-head in
+          let some = stretch .some in
           let fin : Finishes tb p js c (t + d) =
-          record {
-            last = u;
-            after = su;
-            unfinished = omega (arith, b .mine, executed-head, stretch .some);
-            finished = a .mine ∙ ap (λ x. x + d) executed-head ∙ h;
-          } in
+          record { last = t + (d - 1); after = omega arith; unfinished = omega arith; finished = omega arith } in
+          let behind : (k : ℕ) → k < js .N → js .row k ≡ i → c < k → E (t + d) k ≡ 0 =
+          λ k l e m. a .other k (λ q. omega arith) ∙ st .not-yet k l (omega (arith, ap head e)) in
           let before : (k : ℕ) → k < js .N → k < head′ (js .row k) → (k ≡ c → ⊥) → k < head (js .row k) =
           λ k l g ne. by-eq (js .row k) i
           (λ e. by-le k c
-          (λ q. omega (arith, ap head e, diff k ne q))
+          (λ q. omega (arith, ap head e))
           (λ q. absurd (fol .none k (omega arith) (omega (arith, ap head′ e)) e)))
           (λ e. omega (arith, hoff (js .row k) e)) in
           record {
             high = λ j l. by-eq j i (λ e. rw e (fol .high)) (λ e. rw (hoff j e) (st .high j l));
             own = λ j l. by-eq j i (λ e. rw e (fol .is)) (λ e. rw (hoff j e) (st .own j l));
-            finishes =
-                λ k l g. by-eq k c
+            finishes = λ k l g. by-eq k c
                 (λ q. rw (q, new) fin)
                 (λ q. rw (old k q) (st .finishes k l (before k l g q)));
-            over =
-                λ k l g. by-eq k c
+            over = λ k l g. by-eq k c
                 (λ q. rw q (fin .finished))
                 (λ q. a .other k q ∙ st .over k l (before k l g q));
-            now =
-                λ k l g. by-eq (js .row k) i
-                (λ e.
-                let m : c < k = omega (arith, g, ap head′ e, fol .low) in
-                a .other k (λ q. omega arith)
-                ∙ st .not-yet k l (omega (arith, ap head e))
-                ∙ sym (ap done′ e ∙ at))
+            now = λ k l g. by-eq (js .row k) i
+                (λ e. behind k l e (omega (arith, ap head′ e, fol .low)) ∙ sym (ap done′ e ∙ at))
                 (λ e. a .other k (elsewhere k e) ∙ st .now k l (g ∙ hoff (js .row k) e) ∙ sym (doff (js .row k) e));
-            left =
-                λ k l g. by-eq (js .row k) i
+            left = λ k l g. by-eq (js .row k) i
                 (λ e. omega (arith, ap done′ e, at, wfj .lawful .run-low k l))
                 (λ e. rw (doff (js .row k) e) (st .left k l (g ∙ hoff (js .row k) e)));
-            not-yet =
-                λ k l g. by-eq (js .row k) i
-                (λ e.
-                let m : c < k = omega (arith, ap head′ e, fol .low) in
-                a .other k (λ q. omega arith) ∙ st .not-yet k l (omega (arith, ap head e)))
+            not-yet = λ k l g. by-eq (js .row k) i
+                (λ e. behind k l e (omega (arith, ap head′ e, fol .low)))
                 (λ e. a .other k (elsewhere k e) ∙ st .not-yet k l (omega (arith, hoff (js .row k) e)));
           }
-        where
-          diff : (k : ℕ) → (k ≡ c → ⊥) → k ≤ c → k < c
-          diff k ne h = by-eq k c (λ q. absurd (ne q)) (λ q. omega arith)
 
       -- and one job fewer is unfinished
       pub fewer : (head′ : ℕ → ℕ) → Following js i (c + 1) (head′ i) → ((j : ℕ) → (j ≡ i → ⊥) → head′ j ≡ head j) →
@@ -301,12 +268,7 @@ module _ {tb : Table} {p : Plan} {js : Jobs} {t next : ℕ} {head done out : ℕ
           (λ e. omega (arith, leb-true (head′ (js .row k)) k h, ap head e, ap head′ e, fol .low))
           (λ e. omega (arith, leb-true (head′ (js .row k)) k h, hoff (js .row k) e)))))
           cl
-          (omega (
-            arith,
-            given-no (leb (head′ (js .row c)) c) 1 (lt-leb (head′ (js .row c)) c
-                (omega (arith, ap head′ mine, fol .low))),
-            given-yes (leb (head (js .row c)) c) 1 (le-leb (head (js .row c)) c (omega (arith, same))),
-          ))
+          (rw (mine, lt-leb (head′ i) c (omega (arith, fol .low)), le-leb c c (omega arith)) (omega arith))
 
   -- No row waits.
   module _ (none : (j : ℕ) → j < tb .n → head j < next → ⊥) where
@@ -318,11 +280,8 @@ module _ {tb : Table} {p : Plan} {js : Jobs} {t next : ℕ} {head done out : ℕ
         let s : (l : ℕ) → E u l ≡ E t l = idles m x (omega (arith, add-suc t x)) in
         let free : R.Free tb p js (E u) =
         λ l g on.
-        let r = running l g (record {
-          left = omega (arith, s l, on .left);
-          held = subst (λ e. locked tb p (js .row l) e ≡ true) (s l) (on .held);
-        }) in
-        none (js .row l) (row l g) (omega (arith, r .0, r .1)) in
+        let r = running l g (record { left = rw (s l) at (on .left); held = rw (s l) at (on .held) }) in
+        none (js .row l) (row l g) (omega (arith, r .0)) in
         let quiet : R.Quiet tb p js (E u) u =
         λ l g pe.
         none (js .row l) (row l g)

@@ -26,6 +26,9 @@ use Rattle.play.proofs.Standing as S
 abbrev pub at : List ℕ → ℕ → ℕ
 at l i = getD l i 0
 
+set-other : (l : List ℕ) (i v j : ℕ) → (j ≡ i → ⊥) → at (set l i v) j ≡ at l j
+set-other l i v j = getD-set-other l i j v 0
+
 -- play at tick t, with the arrays that it keeps and the output as it came, `out₀`, and as it is
 pub record Playing (tb : Table) (p : Plan) (js : Jobs) (out₀ : List ℕ) (t : ℕ) (heads done out : List ℕ) : Type 0 where
   pub heads-places : length heads ≡ most-rows
@@ -161,78 +164,43 @@ module _ (tb : Table) (p : Plan) (js : Jobs) (sound : Sound tb) (wf : WellFormed
         abbrev e : ℕ
         e = at done i
 
+        done-same : (v : ℕ) → at (set done i v) i ≡ v
+        done-same v = getD-set-same done i v 0 (omega (arith, pl .done-places, sound .few))
+
         turn-on : e + d < js .run c →
             Playing tb p js out₀ (t + d) heads (set done i (e + d)) out × Gained js next t (t + d) heads heads
-        turn-on h = (
-          record {
-            heads-places = pl .heads-places;
-            done-places = simp length-set (pl .done-places);
-            small = λ j l. by-eq j i (λ q. rw (q, same) (omega (arith, head-small)))
-                (λ q. rw (other j q) (pl .small j l));
-            standing =
-                S.stands-on sound wf wfj nx (pl .standing) i il
-                (fm .waits il) first d stretch
-                (at (set done i (e + d))) h same other;
-            whole = pl .whole;
-            rest = pl .rest;
-          },
-          record {
-            later = omega arith;
-            gain =
-                ⊎-elim
-                (λ q. absurd (omega arith))
-                (λ q. inr (refl, q .1, omega (arith, q .2)))
-                (stretch .ends);
-          },
-        )
-          where
-            same : at (set done i (e + d)) i ≡ e + d
-            same = getD-set-same done i (e + d) 0 (omega (arith, pl .done-places, sound .few))
-
-            other : (j : ℕ) → (j ≡ i → ⊥) → at (set done i (e + d)) j ≡ at done j
-            other j q = getD-set-other done i j (e + d) 0 q
+        turn-on h =
+            let same = done-same (e + d) in
+            let other = set-other done i (e + d) in
+            let small : (j : ℕ) → j < tb .n → at (set done i (e + d)) j ≤ most =
+            λ j l. by-eq j i (λ q. rw (q, same) (omega (arith, head-small))) (λ q. rw (other j q) (pl .small j l)) in
+            let st = S.stands-on sound wf wfj nx (pl .standing) i il (fm .waits il) first d stretch
+            (at (set done i (e + d))) h same other in
+            let gained : Gained js next t (t + d) heads heads = record {
+              later = omega arith;
+              gain = ⊎-elim (λ q. absurd (omega arith)) (λ q. inr (refl, q .1, omega arith)) (stretch .ends);
+            } in
+            (search needs, gained)
 
         turn-after : (k : ℕ) → js .run c ≤ e + d → js .N ≤ length out → Following js i (c + 1) k →
             Playing tb p js out₀ (t + d) (set heads i k) (set done i 0) (set out c (t + d))
             × Gained js next t (t + d) heads (set heads i k)
-        turn-after k h room fol = (
-          record {
-            heads-places = simp length-set (pl .heads-places);
-            done-places = simp length-set (pl .done-places);
-            small = λ j l. by-eq j i (λ q. rw (q, done-same) (omega arith)) (λ q. rw (done-other j q) (pl .small j l));
-            standing =
-                S.stands-after sound wf wfj nx (pl .standing) i il
-                (fm .waits il) first d stretch
-                (at (set heads i k)) (at (set done i 0)) (at (set out c (t + d)))
-                (omega (arith, stretch .within, head-left)) follows heads-other done-same done-other
-                (getD-set-same out c (t + d) 0 (omega (arith, head-within)))
-                (λ j q. getD-set-other out c j (t + d) 0 q);
-            whole = simp length-set (pl .whole);
-            rest = drop-set-lt (js .N) out c (t + d) head-within ∙ pl .rest;
-          },
-          record {
-            later = omega arith;
-            gain =
-                inl (S.fewer sound wf wfj nx (pl .standing) i il
-                (fm .waits il) first d stretch
-                (at (set heads i k)) follows heads-other);
-          },
-        )
-          where
-            heads-same : at (set heads i k) i ≡ k
-            heads-same = getD-set-same heads i k 0 (omega (arith, pl .heads-places, sound .few))
-
-            follows : Following js i (c + 1) (at (set heads i k) i)
-            follows = rw heads-same fol
-
-            heads-other : (j : ℕ) → (j ≡ i → ⊥) → at (set heads i k) j ≡ at heads j
-            heads-other j q = getD-set-other heads i j k 0 q
-
-            done-same : at (set done i 0) i ≡ 0
-            done-same = getD-set-same done i 0 0 (omega (arith, pl .done-places, sound .few))
-
-            done-other : (j : ℕ) → (j ≡ i → ⊥) → at (set done i 0) j ≡ at done j
-            done-other j q = getD-set-other done i j 0 0 q
+        turn-after k h room fol =
+            let heads-same = getD-set-same heads i k 0 (omega (arith, pl .heads-places, sound .few)) in
+            let follows : Following js i (c + 1) (at (set heads i k) i) = rw heads-same fol in
+            let other = set-other done i 0 in
+            let new = getD-set-same out c (t + d) 0 (omega (arith, head-within)) in
+            let small : (j : ℕ) → j < tb .n → at (set done i 0) j ≤ most =
+            λ j l. by-eq j i (λ q. rw (q, done-same 0) (omega arith)) (λ q. rw (other j q) (pl .small j l)) in
+            let st = S.stands-after sound wf wfj nx (pl .standing) i il (fm .waits il) first d stretch
+            (at (set heads i k)) (at (set done i 0)) (at (set out c (t + d)))
+            (omega (arith, stretch .within, head-left)) follows (set-other heads i k) (done-same 0) other new
+            (set-other out c (t + d)) in
+            let fewer = S.fewer sound wf wfj nx (pl .standing) i il (fm .waits il) first d stretch
+            (at (set heads i k)) follows (set-other heads i k) in
+            let rest : drop (js .N) (set out c (t + d)) ≡ drop (js .N) out₀ =
+            drop-set-lt (js .N) out c (t + d) head-within ∙ pl .rest in
+            (search needs, record { later = omega arith; gain = inl fewer })
 
     pub decided : Decided tb p js out₀ t next heads done out i
     decided =
