@@ -25,6 +25,9 @@ module _ {tb : Table} {P : ℕ → Bool} {b i q L : ℕ} (w : Working tb P b i q
       let one = w .positive .T i (w .row) in
       omega (arith, up-le L L one (omega (arith, mul-le-mul-left L one)), w .within)
 
+  pub job-exists : (k : ℕ) → 1 ≤ k → k ≤ jobs tb P b i L → (s : ℕ) × Start tb P b i q k s × (s + q ≤ L)
+  job-exists = start-exists tb P b i (w .positive) (w .row) q (w .some) (w .most) L (w .active)
+
   -- job k + 1
   module _ (k : ℕ) (counts : k < jobs tb P b i L) where
     pub job-released : k * tb .T i < L
@@ -32,8 +35,7 @@ module _ {tb : Table} {P : ℕ → Bool} {b i q L : ℕ} (w : Working tb P b i q
 
     pub job-starts : (low : ℕ) → ((s : ℕ) → Start tb P b i q (suc k) s → low ≤ s) → StartWithin tb P b i q (suc k) low
     job-starts low lower =
-        let r = start-exists tb P b i (w .positive) (w .row) q (w .some) (w .most) L (w .active) (suc k) (omega arith)
-        counts in
+        let r = job-exists (suc k) (omega arith) counts in
         record { start = r .0; starts = r .1; within = omega (arith, r .2, w .within); lower = lower (r .0) (r .1) }
 
     pub job-after : {s : ℕ} → Start tb P b i q (suc k) s → k * tb .T i + tb .C i ≤ s + q

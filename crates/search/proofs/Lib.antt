@@ -1,7 +1,6 @@
 -- The laws of the crate `search`.
 pub mod Period
 pub mod Trial
-pub mod Kept
 pub mod Lengths
 pub mod Seen
 pub mod Unique

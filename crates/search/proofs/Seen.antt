@@ -1,6 +1,6 @@
 -- Laws of the search over the rows: what is known of those seen while the rows of a rest are left to try.
 use Prim.Native.Nat.{ℕ, _-_, min, _≤_, _<_}
-use mathlib.Core.Path.{_≡_, ap, sym, _∙_, subst}
+use mathlib.Core.Path.{_≡_, refl, ap, sym, _∙_, subst}
 use mathlib.Core.Bool.{Bool, true, false}
 use native.Mathlib.Omega.{arith}
 use Rattle.counting.specs.Sum.{without}
@@ -10,7 +10,9 @@ use Rattle.marks.specs.inside.Marks.{marked, Next, Less}
 use Rattle.marks.proofs.Marks.{none}
 use Rattle.tables.specs.Table.{Table}
 use Rattle.tables.specs.Plan.{cap}
+use Rattle.test.specs.Test.{Response}
 use Rattle.choice.specs.Choice.{Fits, Shortest, Takes, NoneFits}
+use Rattle.search.proofs.Lengths.{Narrowed}
 
 -- top is the longest length with which a row of worst run c can still take the rank, where the best length so far is
 -- `best`, 0 if there is none
@@ -20,123 +22,127 @@ Worth c best top = (best ≡ 0 → top ≡ c) × (1 ≤ best → top ≡ min c (
 pub worth-le : (c best top : ℕ) → Worth c best top → top ≤ c
 worth-le c best top k = by-le 1 best (λ h. omega (arith, k .1 h)) (λ h. omega (arith, k .0 (omega arith)))
 
-module _ (tb : Table) (U : ℕ → Bool) (b : ℕ) (W : ℕ → Bool) where
-  -- row has the least shortest length, best, of the rows of W that are no longer in rest; best is 0 where none of them
-  -- has any
-  pub record Seen (row best rest : ℕ) : Type 0 where
-    pub among : (j : ℕ) → marked rest j ≡ true → W j ≡ true
-    pub found : 1 ≤ best → (row < tb .n) × (W row ≡ true) × Shortest tb U b row best
-    pub later : 1 ≤ best → (j : ℕ) → marked rest j ≡ true → row < j
-    pub least : (z l : ℕ) → z < tb .n → W z ≡ true → marked rest z ≡ false → 1 ≤ l → l ≤ cap tb z →
-        Fits tb (without U z) b z l →
-        (1 ≤ best) × (best ≤ l) × (z < row → best < l)
+-- row has the least shortest length, best, of the rows of W that are no longer in rest, and time is its response with
+-- it; best is 0 where none of them has any
+pub record Seen (tb : Table) (U : ℕ → Bool) (b : ℕ) (W : ℕ → Bool) (row best time rest : ℕ) : Type 0 where
+  pub among : (j : ℕ) → marked rest j ≡ true → W j ≡ true
+  pub found : 1 ≤ best → (row < tb .n) × (W row ≡ true) × Shortest tb U b row best
+  pub timed : 1 ≤ best → Response tb (without U row) b row best time
+  pub later : 1 ≤ best → (j : ℕ) → marked rest j ≡ true → row < j
+  pub least : (z l : ℕ) → z < tb .n → W z ≡ true → marked rest z ≡ false → 1 ≤ l → l ≤ cap tb z →
+      Fits tb (without U z) b z l → (1 ≤ best) × (best ≤ l) × (z < row → best < l)
 
-  pub seen-first : (rest : ℕ) → ((j : ℕ) → W j ≡ marked rest j) → Seen 0 0 rest
-  seen-first rest same =
-      record {
-        among = λ j e. same j ∙ e;
-        found = λ h. absurd (omega arith);
-        later = λ h. absurd (omega arith);
-        least = λ z l g v m. not-both (W z) (same z ∙ m) v;
-      }
+pub seen-first : (tb : Table) (U : ℕ → Bool) (b rest : ℕ) → Seen tb U b (marked rest) 0 0 0 rest
+seen-first tb U b rest =
+    record {
+      among = λ j e. e;
+      found = λ h. absurd (omega arith);
+      timed = λ h. absurd (omega arith);
+      later = λ h. absurd (omega arith);
+      least = λ z l g v m. not-both (marked rest z) m v;
+    }
 
-  module _ (row best rest i left top : ℕ) (w : Seen row best rest) (n : Next rest i) (d : Less rest i left)
-      (g : i < tb .n) (k : Worth (tb .C i) best top) where
+module _ {tb : Table} {U : ℕ → Bool} {b : ℕ} {W : ℕ → Bool} where
+  -- row i is tried, and its lengths up to the top are narrowed to one
+  module _ {row best time rest i left top low high R : ℕ} (w : Seen tb U b W row best time rest) (n : Next rest i)
+      (d : Less rest i left) (g : i < tb .n) (k : Worth (tb .C i) best top)
+      (s : Narrowed tb (without U i) b i top low high R) (one : high ≤ low) where
     still : (j : ℕ) → marked left j ≡ true → (marked rest j ≡ true) × (i < j)
     still j e =
         without-elim (marked rest) i j (ap (λ Q. Q j) (sym (d .marks)) ∙ e)
-        (λ ne m. (
-          m,
-          let h = n .first .least j (omega arith) m in
-              by-eq i j (λ q. absurd (ne (sym q))) (λ q. omega arith),
-        ))
+        (λ ne m.
+        let h = n .first .least j (omega arith) m in
+        (m, by-eq i j (λ q. absurd (ne (sym q))) (λ q. omega arith)))
 
     -- a row that is no longer left was seen before, or is row i
     gone {ℓ} : {X : Type ℓ} (z : ℕ) → marked left z ≡ false → (z ≡ i → X) → (marked rest z ≡ false → X) → X
     gone z m same before =
         by-eq z i same (λ q. before (sym (without-other (marked rest) i z q) ∙ ap (λ Q. Q z) (sym (d .marks)) ∙ m))
 
+    -- a length of row i that fits is not below the one found
+    no-shorter : (z l : ℕ) → z ≡ i → 1 ≤ l → Fits tb (without U z) b z l → high ≤ l
+    no-shorter z l e lo f =
+        by-le high l (λ h. h)
+        (λ h. absurd (s .shorter l lo (omega (arith, s .order)) (subst (λ y. Fits tb (without U y) b y l) e f)))
+
     -- no length of row i up to the top fits
-    pub seen-same : ((m : ℕ) → 1 ≤ m → m ≤ top → ¬ Fits tb (without U i) b i m) → Seen row best left
+    pub seen-same : top < high → Seen tb U b W row best time left
     seen-same miss =
         record {
           among = λ j e. w .among j (still j e .0);
           found = w .found;
+          timed = w .timed;
           later = λ h j e. w .later h j (still j e .0);
           least =
               λ z l x v m lo hi f.
               gone z m
               (λ q.
-              let f′ = subst (λ y. Fits tb (without U y) b y l) q f in
-              let hi′ : l ≤ tb .C i = omega (arith, hi, ap (tb .C) q) in
+              let m = no-shorter z l q lo f in
+              let c = ap (tb .C) q in
               by-le 1 best
-              (λ one.
-              by-le best l
-              (λ le. (one, le, λ lt. absurd (omega (arith, w .later one i (n .first .holds)))))
-              (λ gt. absurd (miss l lo (omega (arith, k .1 one)) f′)))
-              (λ none-yet. absurd (miss l lo (omega (arith, k .0 (omega arith))) f′)))
+              (λ h. (h, omega (arith, k .1 h), λ lt. absurd (omega (arith, w .later h i (n .first .holds)))))
+              (λ h. absurd (omega (arith, k .0 (omega arith)))))
               (λ old. w .least z l x v old lo hi f);
         }
 
     -- the shortest length of row i is no longer than the top
-    pub seen-better : (q : ℕ) → 1 ≤ q → q ≤ top → Fits tb (without U i) b i q →
-        ((m : ℕ) → 1 ≤ m → m < q → ¬ Fits tb (without U i) b i m) → Seen i q left
-    seen-better q lo hi f miss =
+    pub seen-better : high ≤ top → Seen tb U b W i high R left
+    seen-better hi =
         record {
           among = λ j e. w .among j (still j e .0);
-          found = λ _. (
+          found = λ lo. (
             g,
             w .among i (n .first .holds),
             record {
               low = lo;
-              holds = (reach, f);
-              least = λ u one x. by-le q u (λ h. h) (λ h. absurd (miss u one h (x .1)));
+              holds = (let t = worth-le (tb .C i) best top k in omega arith, s .found hi .0);
+              least = λ u lo x. no-shorter i u refl lo (x .1);
             },
           );
+          timed = λ _. s .found hi .1;
           later = λ _ j e. still j e .1;
           least =
-              λ z l x v m low high fz.
+              λ z l x v m lo′ hi′ fz.
+              let lo : 1 ≤ high = omega (arith, s .some, s .order) in
               gone z m
-              (λ e. (
-                lo,
-                by-le q l (λ h. h) (λ h. absurd (miss l low h (subst (λ y. Fits tb (without U y) b y l) e fz))),
-                λ lt. absurd (omega arith),
-              ))
-              (λ old. let o = w .least z l x v old low high fz in let t = k .1 (o .0) in
+              (λ e. (lo, no-shorter z l e lo′ fz, λ lt. absurd (omega arith)))
+              (λ old. let o = w .least z l x v old lo′ hi′ fz in let t = k .1 (o .0) in
               (lo, omega (arith, o .0, o .1), λ _. omega (arith, o .0, o .1)));
         }
-      where
-        reach : q ≤ tb .C i
-        reach = let t = worth-le (tb .C i) best top k in omega arith
 
   -- no length is shorter than 1: the rows left cannot take the rank
-  pub seen-one : (row rest : ℕ) → Seen row 1 rest → Seen row 1 0
-  seen-one row rest w =
+  pub seen-one : {row best time rest : ℕ} → best ≡ 1 → Seen tb U b W row best time rest → Seen tb U b W row best time 0
+  seen-one {row} {best} {time} {rest} one w =
       record {
         among = λ j e. not-both (marked 0 j) (none j) e;
         found = w .found;
+        timed = w .timed;
         later = λ _ j e. not-both (marked 0 j) (none j) e;
         least =
             λ z l g v _ lo hi f.
             by-bool (marked rest z)
-            (λ m. (omega arith, lo, λ lt. absurd (omega (arith, w .later (omega arith) z m))))
+            (λ m. (omega arith, omega arith, λ lt. absurd (omega (arith, w .later (omega arith) z m))))
             (λ m. w .least z l g v m lo hi f);
       }
 
   -- when no row is left
-  pub seen-all : (row best : ℕ) → Seen row best 0 → 1 ≤ best → Takes tb U b W row best
-  seen-all row best w h =
-      let f = w .found h in
-      record {
-        row = f .0;
-        try = f .1;
-        shortest = f .2;
-        least = λ z l g v s. w .least z l g v (none z) (s .low) (s .holds .0) (s .holds .1) .1;
-        earliest =
-            λ z lt v s.
-            let r = w .least z best (omega (arith, f .0)) v (none z) (s .low) (s .holds .0) (s .holds .1) in
-            absurd (omega (arith, r .2 lt));
-      }
+  module _ {row best time rest : ℕ} (w : Seen tb U b W row best time rest) (over : rest ≡ 0) where
+    all : (z : ℕ) → marked rest z ≡ false
+    all z = ap (λ r. marked r z) over ∙ none z
 
-  pub seen-none : (row : ℕ) → Seen row 0 0 → NoneFits tb U b W
-  seen-none row w z q g v lo hi f = absurd (omega (arith, w .least z q g v (none z) lo hi f .0))
+    pub seen-all : 1 ≤ best → Takes tb U b W row best
+    seen-all h =
+        let f = w .found h in
+        record {
+          row = f .0;
+          try = f .1;
+          shortest = f .2;
+          least = λ z l g v s. w .least z l g v (all z) (s .low) (s .holds .0) (s .holds .1) .1;
+          earliest =
+              λ z lt v s.
+              let r = w .least z best (omega (arith, f .0)) v (all z) (s .low) (s .holds .0) (s .holds .1) in
+              absurd (omega (arith, r .2 lt));
+        }
+
+    pub seen-none : best ≡ 0 → NoneFits tb U b W
+    seen-none e z q g v lo hi f = absurd (omega (arith, w .least z q g v (all z) lo hi f .0))

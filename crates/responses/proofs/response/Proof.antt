@@ -1,5 +1,5 @@
 -- `response` meets its contract: the largest over the jobs passed, each start no lower than the one before plus C.
-use Prim.Native.Nat.{suc, ℕ, _≤_, _<_, _-_}
+use Prim.Native.Nat.{suc, ℕ, max, _≤_, _<_, _+_, _-_, _*_}
 use mathlib.Core.Path.{subst, _≡_}
 use mathlib.Core.Bool.{Bool}
 use mathlib.Core.Logic.{⊎-elim}
@@ -12,10 +12,9 @@ use Rattle.marks.specs.inside.Marks.{marked}
 use Rattle.sides.specs.inside.Asks.{askingIn}
 use Rattle.counting.proofs.Least.{least-unique}
 use Rattle.test.proofs.Load.{sound-positive}
-use Rattle.test.proofs.Sides.{active-side-up}
-use Rattle.sides.proofs.Lower.{active-first, run-first, start-first}
+use Rattle.sides.proofs.Lower.{within-first, run-first, start-first}
 use Rattle.responses.proofs.Jobs.{Working, jobs-few, job-released, job-starts, job-after, job-ends, next-low}
-use Rattle.responses.proofs.Largest.{Passed, passed-none, passed-larger, passed-same, passed-all}
+use Rattle.responses.proofs.Largest.{Passed, passed-none, passed-more, passed-all}
 use Rattle.responses.proofs.response.Statement.{statement}
 use Rattle.responses.proofs.response.Tie as tie
 
@@ -91,6 +90,9 @@ module _ (c : tie.After-start Inv-loop μ-loop) where
       (c .start .result)
   starts = rw (add-one (k I)) at (c .start .ensures)
 
+  abbrev took : ℕ
+  took = c .start .result + S (A I) .args .q - k I * tb (A I) .T (S (A I) .args .i)
+
 cast-run : tie.Need-cast-run Inv-loop μ-loop
 cast-run c = omega (arith, run (c .before) .high)
 
@@ -104,24 +106,12 @@ active-period-requires : tie.Need-active-period-requires Inv-loop μ-loop
 active-period-requires c κs =
     let s = c .before .before .before in
     let p = s .pre in
-    let w = p .5 in
-    let T = askingIn (s .args .asks .now) (s .args .n) in
-    let first = c .active-side .ensures in (
+    let T = askingIn (s .args .asks .now) (s .args .n) in (
       p .0,
       p .1,
       p .2,
-      record {
-        period = w .period;
-        active = w .active;
-        within = w .within;
-        some = omega (
-          arith,
-          first,
-          active-side-up T (marked (s .args .above)) (s .args .b) (s .args .i)
-              (sound-positive T (p .0 .sound)) (p .2),
-        );
-        lower = omega (arith, first, active-first T (marked (s .args .above)) (s .args .b) (s .args .i) (w .active));
-      },
+      within-first T (marked (s .args .above)) (s .args .b) (s .args .i) (sound-positive T (p .0 .sound)) (p .2)
+          (c .active-side .ensures) (p .5 .active) (p .5 .within),
     )
 
 round-up-requires : tie.Need-round-up-requires Inv-loop μ-loop
@@ -186,11 +176,10 @@ loop-again : tie.Need-loop-again Inv-loop μ-loop
 loop-again c =
     let d = c .before in
     let passed = d .before .before .loop .inv .0 in
-    let after = job-after (W d) (k (I d)) (counts (I d)) (starts d) in (
-      ⊎-elim
-          (λ w. rw (w .1) (passed-larger passed (starts d) after (let g = w .0 .taken in omega arith)))
-          (λ w. rw (w .1) (passed-same passed (starts d) after (let g = w .0 .left in omega arith)))
-          (c .if1 .came),
+    let after = job-after (W d) (k (I d)) (counts (I d)) (starts d) in
+    let e : c .if1 .largest ≡ max (d .before .before .loop .largest) (took d) =
+    ⊎-elim (λ w. omega (arith, w .0 .taken, w .1)) (λ w. omega (arith, w .0 .left, w .1)) (c .if1 .came) in (
+      rw e (passed-more passed (starts d) after),
       omega (arith, d .before .loop-test .taken),
       λ s st. next-low (W d) (k (I d)) (starts d) (rw (add-one (k (I d))) at st),
     )

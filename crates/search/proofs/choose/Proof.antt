@@ -1,7 +1,7 @@
 -- `choose` meets its contract: rows, lengths and jobs are walked, and at each way out what is known is one law of Seen,
 -- Lengths or Trial.
 use Prim.Native.Nat.{ℕ, _≤_, _<_, _+_, _*_, _-_}
-use mathlib.Core.Path.{_≡_, refl, sym, ap, _∙_, subst}
+use mathlib.Core.Path.{_≡_, sym, ap, _∙_, subst}
 use mathlib.Core.Bool.{Bool, true, false}
 use mathlib.Core.Logic.{_⊎_, inl, inr, ⊎-elim}
 use native.Mathlib.Omega.{arith}
@@ -13,72 +13,65 @@ use Rattle.counting.proofs.Sum.{without-elim}
 use Rattle.marks.specs.inside.Marks.{marked}
 use Rattle.tables.specs.Table.{Table, Within}
 use Rattle.tables.specs.inside.Rows.{tableIn}
-use Rattle.test.specs.Test.{horizon, upto, Active, jobs, active-side, start-side, Response}
-use Rattle.test.proofs.Load.{Positive, sound-positive}
-use Rattle.test.proofs.Sides.{active-side-up, active-side-level}
-use Rattle.test.proofs.Starts.{jobs-some}
+use Rattle.test.specs.Test.{horizon, upto, Active, active-side, start-side, Response}
+use Rattle.test.proofs.Load.{sound-positive}
 use Rattle.test.proofs.Response.{response-unique}
 use Rattle.sides.specs.inside.Asks.{asking, askingIn}
 use Rattle.sides.specs.inside.Level.{Level}
 use Rattle.sides.proofs.Asks.{sound-for, run-for, active-side-of, start-side-of, active-of, active-for}
-use Rattle.sides.proofs.Lower.{active-first, run-first}
-use Rattle.responses.proofs.Jobs.{Working}
-use Rattle.responses.proofs.Largest.{Passed, passed-none}
+use Rattle.sides.proofs.Lower.{within-first, run-first}
+use Rattle.responses.proofs.Jobs.{Working, jobs-few}
 use Rattle.choice.specs.Choice.{Fits}
-use Rattle.search.proofs.Period.{period-same, blocking-within, period-exists, period-within, jobs-few}
-use Rattle.search.proofs.Trial.{Trial, due, trial-first, trial-within, trial-again, trial-next, trial-passes}
-use Rattle.search.proofs.Trial.{trial-misses}
-use Rattle.search.proofs.Kept.{kept-after, kept-more, kept-all}
+use Rattle.search.proofs.Period.{positive, blocking-within, period-exists, period-within, side-same, period-same}
+use Rattle.search.proofs.Trial.{Trial, trial-first, trial-within, trial-again, trial-misses, trial-after}
+use Rattle.search.proofs.Trial.{trial-next, trial-passes}
 use Rattle.search.proofs.Lengths.{Narrowed, narrowed-first, narrowed-fits, narrowed-misses}
 use Rattle.search.proofs.Seen.{Seen, worth-le, seen-first, seen-same, seen-better, seen-one, seen-all, seen-none}
 use Rattle.search.proofs.choose.Statement.{statement}
 use Rattle.search.proofs.choose.Tie as tie
 
 abbrev Inv-loop : tie.InvT-loop
-Inv-loop n unplaced tried blocking rows asks first others least period row best response rest i above own c t jobs cap
+Inv-loop n unplaced tried b rows asks first others least period row best response rest i above own c t jobs cap
     low high time len k largest s₀ released due s =
-    Trial (tableIn rows n) (marked above) blocking i period len k s × Passed (tableIn rows n) (marked above) blocking i
-    len (k - 1) largest
+    Trial (tableIn rows n) (without (marked unplaced) i) b i len period k s largest
 
 abbrev μ-loop : tie.MeasureT-loop
-μ-loop n unplaced tried blocking rows asks first others least period row best response rest i above own c t jobs cap low
-    high time len k largest s₀ released due s =
-    horizon + 1 - s
+μ-loop n unplaced tried b rows asks first others least period row best response rest i above own c t jobs cap low
+    high time len k largest s₀ released due s = horizon + 1 - s
 
 abbrev Inv-jobs : tie.InvT-jobs
-Inv-jobs n unplaced tried blocking rows asks first others least period row best response rest i above own c t jobs cap
+Inv-jobs n unplaced tried b rows asks first others least period row best response rest i above own c t jobs cap
     low high time len k₀ largest₀ s₀ k largest s =
-    Trial (tableIn rows n) (marked above) blocking i period len k s × Passed (tableIn rows n) (marked above) blocking i
-    len (k - 1) largest
+    Trial (tableIn rows n) (without (marked unplaced) i) b i len period k s largest
 
 abbrev μ-jobs : tie.MeasureT-jobs
-μ-jobs n unplaced tried blocking rows asks first others least period row best response rest i above own c t jobs cap low
-    high time len k₀ largest₀ s₀ k largest s =
-    jobs + 1 - k
+μ-jobs n unplaced tried b rows asks first others least period row best response rest i above own c t jobs cap low
+    high time len k₀ largest₀ s₀ k largest s = jobs + 1 - k
 
 abbrev Inv-lengths : tie.InvT-lengths
-Inv-lengths n unplaced tried blocking rows asks first others least period row best response rest i above own c t jobs
-    cap low₀ high₀ time₀ len₀ low high time len =
-    Narrowed (tableIn rows n) (marked above) blocking i cap low high len
-    × (high ≤ cap → Response (tableIn rows n) (marked above) blocking i high time)
+Inv-lengths n unplaced tried b rows asks first others least period row best response rest i above own c t jobs cap
+    low₀ high₀ time₀ len₀ low high time len =
+    Narrowed (tableIn rows n) (without (marked unplaced) i) b i cap low high time
+    × (low < high → (low ≤ len) × (len < high))
 
 abbrev μ-lengths : tie.MeasureT-lengths
-μ-lengths n unplaced tried blocking rows asks first others least period row best response rest i above own c t jobs cap
-    low₀ high₀ time₀ len₀ low high time len =
-    high - low
+μ-lengths n unplaced tried b rows asks first others least period row best response rest i above own c t jobs cap
+    low₀ high₀ time₀ len₀ low high time len = high - low
 
 abbrev Inv-rows : tie.InvT-rows
-Inv-rows n unplaced tried blocking rows asks first others least period row₀ best₀ response₀ rest₀ row best response
-    rest =
-    Seen (tableIn rows n) (marked unplaced) blocking (marked tried) row best rest
-    × (1 ≤ best → Response (tableIn rows n) (without (marked unplaced) row) blocking row best response)
+Inv-rows n unplaced tried b rows asks first others least period row₀ best₀ response₀ rest₀ row best response rest =
+    Seen (tableIn rows n) (marked unplaced) b (marked tried) row best response rest
 
 abbrev μ-rows : tie.MeasureT-rows
-μ-rows n unplaced tried blocking rows asks first others least period row₀ best₀ response₀ rest₀ row best response rest =
-    rest
+μ-rows n unplaced tried b rows asks first others least period row₀ best₀ response₀ rest₀ row best response rest = rest
 
--- ---- the level, and its first row
-module _ (s : tie.Start Inv-loop μ-loop Inv-jobs μ-jobs Inv-lengths μ-lengths Inv-rows μ-rows) where
+-- a place, or a need, under these invariants
+abbrev Under : (tie.InvT-loop → tie.MeasureT-loop → tie.InvT-jobs → tie.MeasureT-jobs → tie.InvT-lengths →
+    tie.MeasureT-lengths → tie.InvT-rows → tie.MeasureT-rows → Type 0) → Type 0
+Under X = X Inv-loop μ-loop Inv-jobs μ-jobs Inv-lengths μ-lengths Inv-rows μ-rows
+
+-- ---- the level
+module _ (s : Under tie.Start) where
   abbrev tb : Table
   tb = tableIn (s .args .t1) (s .args .n)
 
@@ -88,14 +81,8 @@ module _ (s : tie.Start Inv-loop μ-loop Inv-jobs μ-jobs Inv-lengths μ-lengths
   abbrev b : ℕ
   b = s .args .blocking
 
-  pos : Positive tb
-  pos = sound-positive tb (s .pre .sound)
-
-  few : b ≤ horizon
-  few = blocking-within tb U b (s .pre .busy) (s .pre .room)
-
 -- ---- what its rows ask with
-module _ (a : tie.After-asks-of Inv-loop μ-loop Inv-jobs μ-jobs Inv-lengths μ-lengths Inv-rows μ-rows) where
+module _ (a : Under tie.After-asks-of) where
   abbrev asked : Table
   asked = askingIn (a .asks-of .result) (a .before .args .n)
 
@@ -111,16 +98,37 @@ module _ (a : tie.After-asks-of Inv-loop μ-loop Inv-jobs μ-jobs Inv-lengths μ
             (λ _ u. a .before .pre .inside j u);
       }
 
+-- ---- its first row
+module _ (c : Under tie.After-less) where
+  abbrev F : Under tie.After-asks-of
+  F = c .before .before
+
+  abbrev first : ℕ
+  first = c .before .next .result
+
+  abbrev rest : ℕ → Bool
+  rest = marked (c .less .result)
+
+  marked-first : U (F .before) first ≡ true
+  marked-first = c .before .next .ensures .first .holds
+
+-- ---- where the level began
+abbrev begun : Under tie.After-active-period → Under tie.Start
+begun a = F (a .before .before .before .before) .before
+
 -- ---- the row in hand
-module _ (h : tie.After-less3 Inv-loop μ-loop Inv-jobs μ-jobs Inv-lengths μ-lengths Inv-rows μ-rows) where
-  abbrev A : tie.After-active-period Inv-loop μ-loop Inv-jobs μ-jobs Inv-lengths μ-lengths Inv-rows μ-rows
+module _ (h : Under tie.After-less3) where
+  abbrev A : Under tie.After-active-period
   A = h .before .before .before .before .before
 
-  abbrev O : tie.After-asks-of Inv-loop μ-loop Inv-jobs μ-jobs Inv-lengths μ-lengths Inv-rows μ-rows
-  O = A .before .before .before .before .before .before
+  abbrev N : Under tie.After-less
+  N = A .before .before .before .before
 
-  abbrev S : tie.Start Inv-loop μ-loop Inv-jobs μ-jobs Inv-lengths μ-lengths Inv-rows μ-rows
-  S = O .before
+  abbrev O : Under tie.After-asks-of
+  O = F N
+
+  abbrev S : Under tie.Start
+  S = begun A
 
   abbrev L : ℕ
   L = A .active-period .result
@@ -128,41 +136,26 @@ module _ (h : tie.After-less3 Inv-loop μ-loop Inv-jobs μ-jobs Inv-lengths μ-l
   abbrev i : ℕ
   i = h .before .before .next2 .result
 
+  -- the rows above it
   abbrev P : ℕ → Bool
-  P = marked (h .less3 .result)
+  P = without (U S) i
 
-  abbrev row : ℕ
-  row = h .before .before .before .before .rows .row
-
-  abbrev best : ℕ
-  best = h .before .before .before .before .rows .best
-
-  seen : Seen (tb S) (U S) (b S) (marked (S .args .tried)) row best (h .before .before .before .before .rows .rest)
-  seen = h .before .before .before .before .rows .inv .0
+  abbrev rows : Under tie.At-rows
+  rows = h .before .before .before .before
 
   unplaced : U S i ≡ true
-  unplaced = S .pre .among i (seen .among i (h .before .before .next2 .ensures .first .holds))
+  unplaced = S .pre .among i (rows .rows .inv .among i (h .before .before .next2 .ensures .first .holds))
 
   inside : i < S .args .n
   inside = S .pre .inside i unplaced
 
-  marks : P ≡ without (U S) i
-  marks = h .less3 .ensures .marks
-
   active : Active (tb S) P (b S) i L
   active =
-      let f = A .before .before .before .before .before .next .result in
-      let m = A .before .before .before .before .before .next .ensures .first .holds in
-      subst (λ Q. Active (tb S) Q (b S) i L) (sym marks)
-      (period-same (tb S) (U S) (b S) f i L (S .pre .inside f m) m inside unplaced
-      (subst (λ Q. Active (tb S) Q (b S) f L) (A .before .before .before .before .less .ensures .marks)
-      (active-of (tb S) (same O) (marked (A .before .before .before .before .less .result)) (b S) f
-      (A .active-period .ensures))))
+      period-same (S .pre) (first N) i (marked-first N) unplaced
+      (rw (N .less .ensures .marks) at (active-of (tb S) (same O) (rest N) (b S) (first N) (A .active-period .ensures)))
 
   short : L ≤ horizon
-  short =
-      period-within (tb S) (U S) (b S) (S .pre .busy) (S .pre .room) i L (pos S) inside unplaced
-      (subst (λ Q. Active (tb S) Q (b S) i L) marks active)
+  short = period-within (S .pre) i unplaced active
 
   -- what the level asks for in the first tick
   abbrev least : ℕ
@@ -170,14 +163,9 @@ module _ (h : tie.After-less3 Inv-loop μ-loop Inv-jobs μ-jobs Inv-lengths μ-l
 
   least-is : least ≡ active-side (tb S) P (b S) i 1
   least-is =
-      let f = A .before .before .before .before .before .next .result in
-      let m = A .before .before .before .before .before .next .ensures .first .holds in
       A .before .before .active-side .ensures
-      ∙ active-side-of (tb S) (same O) (marked (A .before .before .before .before .less .result)) (b S) f 1
-      ∙ ap (λ Q. active-side (tb S) Q (b S) f 1) (A .before .before .before .before .less .ensures .marks)
-      ∙ active-side-level (tb S) (U S) (b S) f 1 (S .pre .inside f m) m
-      ∙ sym (active-side-level (tb S) (U S) (b S) i 1 inside unplaced)
-      ∙ ap (λ Q. active-side (tb S) Q (b S) i 1) (sym marks)
+      ∙ active-side-of (tb S) (same O) (rest N) (b S) (first N) 1
+      ∙ rw (N .less .ensures .marks) (side-same (S .pre) (first N) i 1 (marked-first N) unplaced)
 
   runs : Within (tb S .C i)
   runs = S .pre .sound .C i inside
@@ -185,571 +173,301 @@ module _ (h : tie.After-less3 Inv-loop μ-loop Inv-jobs μ-jobs Inv-lengths μ-l
   spaced : Within (tb S .T i)
   spaced = S .pre .sound .T i inside
 
-  dues : Within (tb S .D i)
-  dues = S .pre .sound .D i inside
-
 -- ---- its longest length worth a try
-module _ (c : tie.After-cap-of Inv-loop μ-loop Inv-jobs μ-jobs Inv-lengths μ-lengths Inv-rows μ-rows) where
-  abbrev H : tie.After-less3 Inv-loop μ-loop Inv-jobs μ-jobs Inv-lengths μ-lengths Inv-rows μ-rows
+module _ (c : Under tie.After-cap-of) where
+  abbrev H : Under tie.After-less3
   H = c .before .before .before .before .before
 
   abbrev top : ℕ
   top = c .cap-of .result
 
   top-le : top ≤ tb (S H) .C (i H)
-  top-le = worth-le (tb (S H) .C (i H)) (best H) top (c .cap-of .ensures)
+  top-le = worth-le (tb (S H) .C (i H)) (rows H .rows .best) top (c .cap-of .ensures)
 
 -- ---- the length that is tried
-module _ (c : tie.In-lengths Inv-loop μ-loop Inv-jobs μ-jobs Inv-lengths μ-lengths Inv-rows μ-rows) where
-  abbrev R : tie.After-less3 Inv-loop μ-loop Inv-jobs μ-jobs Inv-lengths μ-lengths Inv-rows μ-rows
+module _ (c : Under tie.In-lengths) where
+  abbrev R : Under tie.After-less3
   R = H (c .before .before)
 
   abbrev q : ℕ
   q = c .before .lengths .len
 
-  tried-low : 1 ≤ q
-  tried-low = let w = c .before .lengths .inv .0 in omega (arith, w .some, w .next (c .lengths-test .taken) .0)
-
-  tried-high : q ≤ tb (S R) .C (i R)
-  tried-high = let w = c .before .lengths .inv .0 in omega
-      (arith, w .within, w .next (c .lengths-test .taken) .1, top-le (c .before .before))
-
-  abbrev Pass : Type 0
-  Pass = Fits (tb (S R)) (P R) (b (S R)) (i R) q
-
-  abbrev Time : ℕ → Type 0
-  Time = Response (tb (S R)) (P R) (b (S R)) (i R) q
+  between : (c .before .lengths .low ≤ q) × (q < c .before .lengths .high)
+  between = c .before .lengths .inv .1 (c .lengths-test .taken)
 
   working : Working (tb (S R)) (P R) (b (S R)) (i R) q (L R)
-  working = record {
-    positive = pos (S R);
-    row = inside R;
-    some = tried-low;
-    most = tried-high;
-    active = active R;
-    within = short R;
-  }
+  working =
+      let w = c .before .lengths .inv .0 in
+      record {
+        positive = positive (S R .pre);
+        row = inside R;
+        some = omega (arith, w .some, between .0);
+        most = omega (arith, w .within, between .1, top-le (c .before .before));
+        active = active R;
+        within = short R;
+      }
+
+  abbrev Passes : ℕ → Type 0
+  Passes time = Fits (tb (S R)) (P R) (b (S R)) (i R) q × Response (tb (S R)) (P R) (b (S R)) (i R) q time
+
+  abbrev Fails : Type 0
+  Fails = ¬ Fits (tb (S R)) (P R) (b (S R)) (i R) q
+
+  -- less is left of the lengths
+  abbrev Narrower : ℕ → ℕ → ℕ → Type 0
+  Narrower low high time =
+      Narrowed (tb (S R)) (P R) (b (S R)) (i R) (top (c .before .before)) low high time
+      × (high - low < c .before .lengths .high - c .before .lengths .low)
+
+  shorter : {time : ℕ} → Passes time → Narrower (c .before .lengths .low) q time
+  shorter f = let k = between in
+      (narrowed-fits (c .before .lengths .inv .0) (k .0) (k .1) working f, omega arith)
+
+  longer : Fails → Narrower (q + 1) (c .before .lengths .high) (c .before .lengths .time)
+  longer f = let k = between in
+      (narrowed-misses (c .before .lengths .inv .0) (k .0) (k .1) working f, omega arith)
 
 -- ---- a job that is tried
-module _ (c : tie.At-jobs Inv-loop μ-loop Inv-jobs μ-jobs Inv-lengths μ-lengths Inv-rows μ-rows) where
-  abbrev G : tie.After-less3 Inv-loop μ-loop Inv-jobs μ-jobs Inv-lengths μ-lengths Inv-rows μ-rows
-  G = R (c .before)
+module _ (c : Under tie.At-jobs) where
+  job-few : c .jobs .k ≤ horizon
+  job-few = omega (arith, c .jobs .inv .high, jobs-few (working (c .before)))
 
-  job-few : c .jobs .k ≤ 1000000
-  job-few = omega (
-    arith,
-    c .jobs .inv .0 .high,
-    jobs-few (tb (S G)) (P G) (b (S G)) (i G) (L G) (pos (S G)) (inside G),
-    short G,
-  )
-
-  released : (c .jobs .k - 1) * tb (S G) .T (i G) ≤ 1000000 * 1000000
-  released = mul-le-mul {n₂ = 1000000} {m₂ = 1000000} (let k = job-few in omega arith) (spaced G .high)
+  released : (c .jobs .k - 1) * tb (S (R (c .before))) .T (i (R (c .before))) ≤ 1000000 * 1000000
+  released = mul-le-mul {n₂ = 1000000} {m₂ = 1000000} (let k = job-few in omega arith) (spaced (R (c .before)) .high)
 
 -- ---- one value of a start's iteration
-module _ (c : tie.At-loop Inv-loop μ-loop Inv-jobs μ-jobs Inv-lengths μ-lengths Inv-rows μ-rows) where
-  abbrev J : tie.At-jobs Inv-loop μ-loop Inv-jobs μ-jobs Inv-lengths μ-lengths Inv-rows μ-rows
+module _ (c : Under tie.At-loop) where
+  abbrev J : Under tie.At-jobs
   J = c .before .before
 
-  abbrev I : tie.In-lengths Inv-loop μ-loop Inv-jobs μ-jobs Inv-lengths μ-lengths Inv-rows μ-rows
+  abbrev I : Under tie.In-lengths
   I = J .before
 
-  abbrev side : ℕ → ℕ
-  side = start-side (tb (S (R I))) (P (R I)) (b (S (R I))) (i (R I)) upto (q I) (J .jobs .k)
+  abbrev side : ℕ
+  side = start-side (tb (S (R I))) (P (R I)) (b (S (R I))) (i (R I)) upto (q I) (J .jobs .k) (c .loop .s)
 
   -- what the asks give for it
-  turned : start-side (asked (O (R I))) (P (R I)) (b (S (R I))) (i (R I)) upto (q I) (J .jobs .k) (c .loop .s)
-      ≡ side (c .loop .s)
-  turned = start-side-of (tb (S (R I))) (same (O (R I))) (P (R I)) (b (S (R I))) (i (R I)) (q I) (J .jobs .k)
-      (c .loop .s)
+  turned : start-side (asked (O (R I))) (marked (R I .less3 .result)) (b (S (R I))) (i (R I)) upto (q I) (J .jobs .k)
+      (c .loop .s) ≡ side
+  turned = rw (R I .less3 .ensures .marks)
+      (start-side-of (tb (S (R I))) (same (O (R I))) (P (R I)) (b (S (R I))) (i (R I)) (q I) (J .jobs .k) (c .loop .s))
 
-  within : c .loop .s + q I ≤ L (R I)
-  within =
-      trial-within (tb (S (R I))) (P (R I)) (b (S (R I))) (i (R I)) (L (R I)) (q I) (pos (S (R I))) (inside (R I))
-      (active (R I)) (tried-low I)
-      (tried-high I) (c .loop .inv .0)
+  within : c .loop .s + q I ≤ horizon
+  within = omega (arith, trial-within (working I) (c .loop .inv), short (R I))
+
+-- ---- where a value repeats
+module _ (c : Under tie.Then2) where
+  abbrev E : Under tie.At-loop
+  E = c .before .before .before .before
+
+  repeats : E .loop .s ≡ side E
+  repeats = sym (c .if2 .taken) ∙ c .before .start-side .ensures ∙ turned E
 
 -- ---- where the job loop is left
-tested : (c : tie.Joined1 Inv-loop μ-loop Inv-jobs μ-jobs Inv-lengths μ-lengths Inv-rows μ-rows) → let x =
-    I (c .before) in
-    ((c .if1 .passes ≡ true) × Pass x × Time x (c .if1 .largest)) ⊎ ((c .if1 .passes ≡ false) × ¬ Pass x)
+tested : (c : Under tie.Joined1) → let x = I (c .before) in
+    ((c .if1 .passes ≡ true) × Passes x (c .if1 .largest)) ⊎ ((c .if1 .passes ≡ false) × Fails x)
 tested c =
     let a = c .before in
     let x = I a in
-    let h = R x in
     ⊎-elim
-    (λ m. inr (
-      m .2,
-      trial-misses (tb (S h)) (P h) (b (S h)) (i h) (L h) (q x) (pos (S h)) (inside h) (active h) (tried-low x)
-          (tried-high x) (a .loop .inv .0)
-          (m .0 .taken),
-    ))
+    (λ m. inr (m .2, trial-misses (working x) (a .loop .inv) (m .0 .taken)))
     (λ m. inl (
       m .7,
-      trial-passes (tb (S h)) (P h) (b (S h)) (i h) (L h) (q x) (pos (S h)) (inside h) (active h) (tried-low x)
-          (tried-high x) (a .loop .inv .0)
-          (sym (m .3 .taken) ∙ m .2 .ensures ∙ turned a) (m .0 .left)
-          (m .5 .taken ∙ x .before .before .before .round-up .ensures),
-      subst (Time x) (sym (m .6 ∙ m .4 .ensures))
-          (kept-all (working x) (a .loop .inv .0) (sym (m .3 .taken) ∙ m .2 .ensures ∙ turned a) (a .loop .inv .1)
+      subst (Passes x) (sym (m .6 ∙ m .4 .ensures))
+          (trial-passes (working x) (a .loop .inv) (sym (m .3 .taken) ∙ m .2 .ensures ∙ turned a) (m .0 .left)
           (m .5 .taken ∙ x .before .before .before .round-up .ensures)),
     ))
     (c .if1 .came)
 
 -- ---- where a length has been tried
-outcome : (c : tie.Joined4 Inv-loop μ-loop Inv-jobs μ-jobs Inv-lengths μ-lengths Inv-rows μ-rows) → let x =
-    I (c .before .before) in
-    ((c .if4 .low ≡ x .before .lengths .low) × (c .if4 .high ≡ q x) × Pass x × Time x (c .if4 .time))
-    ⊎ ((c .if4 .low ≡ q x + 1) × (c .if4 .high ≡ x .before .lengths .high) × (¬ Pass x)
-    × (c .if4 .time ≡ x .before .lengths .time))
+outcome : (c : Under tie.Joined4) → Narrower (I (c .before .before)) (c .if4 .low) (c .if4 .high) (c .if4 .time)
 outcome c =
+    let x = I (c .before .before) in
     ⊎-elim
-    (λ m. ⊎-elim (λ t. inl (m .1, m .2, t .1, subst (Time (I (c .before .before))) (sym (m .3)) (t .2)))
-    (λ t. not-both (c .before .if1 .passes) (t .0) (m .0 .taken)) (tested (c .before)))
-    (λ m. ⊎-elim (λ t. not-both (c .before .if1 .passes) (m .0 .left) (t .0)) (λ t. inr (m .1, m .2, t .1, m .3))
-    (tested (c .before)))
+    (λ m. rw (m .1, m .2, m .3)
+    (⊎-elim (λ t. shorter x (t .1)) (λ t. not-both (c .before .if1 .passes) (t .0) (m .0 .taken)) (tested (c .before))))
+    (λ m. rw (m .1, m .2, m .3)
+    (⊎-elim (λ t. not-both (c .before .if1 .passes) (m .0 .left) (t .0)) (λ t. longer x (t .1)) (tested (c .before))))
     (c .if4 .came)
 
 -- ---- where the lengths of a row are left
-module _ (c : tie.After-lengths Inv-loop μ-loop Inv-jobs μ-jobs Inv-lengths μ-lengths Inv-rows μ-rows) where
-  abbrev K : tie.After-cap-of Inv-loop μ-loop Inv-jobs μ-jobs Inv-lengths μ-lengths Inv-rows μ-rows
+module _ (c : Under tie.After-lengths) where
+  abbrev K : Under tie.After-cap-of
   K = c .before .before
 
-  abbrev high : ℕ
-  high = c .before .lengths .high
+  abbrev G : Under tie.After-less3
+  G = H K
 
-  fits-here : {m : ℕ} → Fits (tb (S (H K))) (P (H K)) (b (S (H K))) (i (H K)) m →
-      Fits (tb (S (H K))) (without (U (S (H K))) (i (H K))) (b (S (H K))) (i (H K)) m
-  fits-here {m} f = subst (λ Q. Fits (tb (S (H K))) Q (b (S (H K))) (i (H K)) m) (marks (H K)) f
+  abbrev Leads : ℕ → ℕ → ℕ → Type 0
+  Leads row best time =
+      Seen (tb (S G)) (U (S G)) (b (S G)) (marked (S G .args .tried)) row best time (G .before .less2 .result)
 
-  none-shorter : (m : ℕ) → 1 ≤ m → m < high → ¬ Fits (tb (S (H K))) (without (U (S (H K))) (i (H K))) (b (S (H K)))
-      (i (H K)) m
-  none-shorter m o l f =
-      let w = c .before .lengths .inv .0 in
-      w .shorter m o (omega (arith, w .order, c .lengths-test .left))
-      (subst (λ Q. Fits (tb (S (H K))) Q (b (S (H K))) (i (H K)) m) (sym (marks (H K))) f)
+  better : c .before .lengths .high ≤ top K → Leads (i G) (c .before .lengths .high) (c .before .lengths .time)
+  better = seen-better (rows G .rows .inv) (G .before .before .next2 .ensures) (G .before .less2 .ensures) (inside G)
+      (K .cap-of .ensures) (c .before .lengths .inv .0) (c .lengths-test .left)
 
--- ---- where no row is left
-ended : (c : tie.After-rows Inv-loop μ-loop Inv-jobs μ-jobs Inv-lengths μ-lengths Inv-rows μ-rows) → let s =
-    c .before .before .before .before .before .before .before .before .before in
-    Seen (tb s) (U s) (b s) (marked (s .args .tried)) (c .before .rows .row) (c .before .rows .best) 0
-ended c =
-    let s = c .before .before .before .before .before .before .before .before .before in
-    subst (Seen (tb s) (U s) (b s) (marked (s .args .tried)) (c .before .rows .row) (c .before .rows .best))
-    (c .rows-test .left) (c .before .rows .inv .0)
+  unchanged : top K < c .before .lengths .high → Leads (rows G .rows .row) (rows G .rows .best) (rows G .rows .response)
+  unchanged = seen-same (rows G .rows .inv) (G .before .before .next2 .ensures) (G .before .less2 .ensures) (inside G)
+      (K .cap-of .ensures) (c .before .lengths .inv .0) (c .lengths-test .left)
 
-next-requires :
-    tie.Need-next-requires Inv-loop μ-loop Inv-jobs μ-jobs Inv-lengths μ-lengths Inv-rows μ-rows
-next-requires c κs = c .before .pre .some
-
-less-requires :
-    tie.Need-less-requires Inv-loop μ-loop Inv-jobs μ-jobs Inv-lengths μ-lengths Inv-rows μ-rows
-less-requires c κs = (c .next .ensures .inside, c .next .ensures .first .holds)
-
-active-side-requires :
-    tie.Need-active-side-requires
-    Inv-loop
-    μ-loop
-    Inv-jobs
-    μ-jobs
-    Inv-lengths
-    μ-lengths
-    Inv-rows
-    μ-rows
+active-side-requires : Under tie.Need-active-side-requires
 active-side-requires c κs =
     let d = c .before in
-    let o = d .before .before in
-    let f = d .before .next .result in (
-      others o f (d .less .result) (d .less .ensures .marks),
-      few (o .before),
-      o .before .pre .inside f
-          (d .before .next .ensures .first .holds),
+    let s = F d .before in (
+      others (F d) (first d) (d .less .result) (d .less .ensures .marks),
+      blocking-within (s .pre),
+      s .pre .inside (first d) (marked-first d),
       omega arith,
     )
 
-active-period-requires :
-    tie.Need-active-period-requires
-    Inv-loop
-    μ-loop
-    Inv-jobs
-    μ-jobs
-    Inv-lengths
-    μ-lengths
-    Inv-rows
-    μ-rows
+active-period-requires : Under tie.Need-active-period-requires
 active-period-requires c κs =
-    let e = c .before in
-    let d = e .before .before in
-    let o = d .before .before in
-    let s = o .before in
-    let f = d .before .next .result in
-    let m = d .before .next .ensures .first .holds in
-    let l = s .pre .inside f m in
-    let r = period-exists (tb s) (U s) (b s) (s .pre .busy) (s .pre .room) f (pos s) l m in
-    let a =
-    active-for (tb s) (same o) (marked (d .less .result)) (b s) f
-    (subst (λ Q. Active (tb s) Q (b s) f (r .0)) (sym (d .less .ensures .marks)) (r .1)) in (
-      others o f (d .less .result) (d .less .ensures .marks),
-      few s,
+    let d = c .before .before .before in
+    let s = F d .before in
+    let v = others (F d) (first d) (d .less .result) (d .less .ensures .marks) in
+    let l = s .pre .inside (first d) (marked-first d) in
+    let r = period-exists (s .pre) (first d) (marked-first d) in (
+      v,
+      blocking-within (s .pre),
       l,
-      record {
-        period = r .0;
-        active = a;
-        within = r .2;
-        some =
-            omega (
-              arith,
-              e .active-side .ensures,
-              active-side-up (asked o) (marked (d .less .result)) (b s) f
-                  (sound-positive (asked o) (others o f (d .less .result) (d .less .ensures .marks) .sound)) l,
-            );
-        lower = omega (arith, e .active-side .ensures, active-first (asked o) (marked (d .less .result)) (b s) f a);
-      },
+      within-first (asked (F d)) (rest d) (b s) (first d)
+          (sound-positive (asked (F d)) (v .sound)) l (c .before .active-side .ensures)
+          (active-for (tb s) (same (F d)) (rest d) (b s) (first d) (rw (d .less .ensures .marks) (r .1))) (r .2),
     )
 
-rows-holds :
-    tie.Need-rows-holds Inv-loop μ-loop Inv-jobs μ-jobs Inv-lengths μ-lengths Inv-rows μ-rows
-rows-holds c = (seen-first _ _ _ _ _ (λ j. refl), λ h. absurd (omega arith))
+rows-holds : Under tie.Need-rows-holds
+rows-holds c = seen-first _ _ _ _
 
-next-requires-2 :
-    tie.Need-next-requires-2 Inv-loop μ-loop Inv-jobs μ-jobs Inv-lengths μ-lengths Inv-rows μ-rows
-next-requires-2 c κs = pos-of-ne-zero (c .rows-test .taken)
-
-less-requires-2 :
-    tie.Need-less-requires-2 Inv-loop μ-loop Inv-jobs μ-jobs Inv-lengths μ-lengths Inv-rows μ-rows
-less-requires-2 c κs = (c .next2 .ensures .inside, c .next2 .ensures .first .holds)
-
-less-requires-3 :
-    tie.Need-less-requires-3 Inv-loop μ-loop Inv-jobs μ-jobs Inv-lengths μ-lengths Inv-rows μ-rows
+less-requires-3 : Under tie.Need-less-requires-3
 less-requires-3 c κs =
     let n = c .before .next2 .ensures in
-    let s = c .before .before .before .before .before .before .before .before .before .before .before in (
-      n .inside,
-      s .pre .among (c .before .next2 .result)
-          (c .before .before .before .rows .inv .0 .among (c .before .next2 .result) (n .first .holds)),
-    )
+    let r = c .before .before .before in
+    (n .inside, begun (r .before) .pre .among _ (r .rows .inv .among _ (n .first .holds)))
 
-round-up-requires :
-    tie.Need-round-up-requires
-    Inv-loop
-    μ-loop
-    Inv-jobs
-    μ-jobs
-    Inv-lengths
-    μ-lengths
-    Inv-rows
-    μ-rows
-round-up-requires c κs = let h = c .before .before .before in (spaced h .low, omega (arith, short h, spaced h .high))
+lengths-holds : Under tie.Need-lengths-holds
+lengths-holds c = (narrowed-first _ _ _ _ _, search needs)
 
-add-high : tie.Need-add-high Inv-loop μ-loop Inv-jobs μ-jobs Inv-lengths μ-lengths Inv-rows μ-rows
-add-high c = omega (arith, top-le c, runs (H c) .high)
-
-lengths-holds :
-    tie.Need-lengths-holds Inv-loop μ-loop Inv-jobs μ-jobs Inv-lengths μ-lengths Inv-rows μ-rows
-lengths-holds c = (narrowed-first _ _ _ _ _, λ h. absurd (omega arith))
-
-sub-s : tie.Need-sub-s Inv-loop μ-loop Inv-jobs μ-jobs Inv-lengths μ-lengths Inv-rows μ-rows
+sub-s : Under tie.Need-sub-s
 sub-s c =
     let h = R c in
-    omega (arith, tried-high c, run-first (tb (S h)) (P h) (b (S h)) (i h) (pos (S h)) (inside h), least-is h)
+    let first = run-first (tb (S h)) (P h) (b (S h)) (i h) (working c .positive) (inside h) in
+    omega (arith, working c .most, least-is h)
 
-jobs-holds :
-    tie.Need-jobs-holds Inv-loop μ-loop Inv-jobs μ-jobs Inv-lengths μ-lengths Inv-rows μ-rows
-jobs-holds c =
-    let h = R c in (
-      trial-first (tb (S h)) (P h) (b (S h)) (i h) (L h) (q c) (pos (S h)) (inside h) (active h) (tried-low c)
-          (tried-high c)
-          (least h) (least-is h) (jobs-some (tb (S h)) (P h) (b (S h)) (i h) (pos (S h)) (inside h) (L h) (active h)),
-      passed-none _ _ _ _ _,
-    )
+jobs-holds : Under tie.Need-jobs-holds
+jobs-holds c = trial-first (working c) (least (R c)) (least-is (R c))
 
-sub-released : tie.Need-sub-released Inv-loop μ-loop Inv-jobs μ-jobs Inv-lengths μ-lengths Inv-rows μ-rows
-sub-released c = c .jobs .inv .0 .low
-
-mul-released : tie.Need-mul-released Inv-loop μ-loop Inv-jobs μ-jobs Inv-lengths μ-lengths Inv-rows μ-rows
-mul-released c = omega (arith, released c)
-
-add-due : tie.Need-add-due Inv-loop μ-loop Inv-jobs μ-jobs Inv-lengths μ-lengths Inv-rows μ-rows
-add-due c = omega (arith, released (c .before), dues (G (c .before)) .high)
-
-loop-holds :
-    tie.Need-loop-holds Inv-loop μ-loop Inv-jobs μ-jobs Inv-lengths μ-lengths Inv-rows μ-rows
+loop-holds : Under tie.Need-loop-holds
 loop-holds c = c .before .jobs .inv
 
-add-if1 : tie.Need-add-if1 Inv-loop μ-loop Inv-jobs μ-jobs Inv-lengths μ-lengths Inv-rows μ-rows
-add-if1 c = omega (arith, within c, short (R (I c)))
+add-due : Under tie.Need-add-due
+add-due c =
+    let h = R (c .before .before) in
+    omega (arith, released (c .before), S h .pre .sound .D (i h) (inside h) .high)
 
-start-side-requires :
-    tie.Need-start-side-requires
-    Inv-loop
-    μ-loop
-    Inv-jobs
-    μ-jobs
-    Inv-lengths
-    μ-lengths
-    Inv-rows
-    μ-rows
+start-side-requires : Under tie.Need-start-side-requires
 start-side-requires c κs =
     let a = c .before .before in
     let h = R (I a) in (
-      others (O h) (i h) (h .less3 .result) (marks h),
-      few (S h),
+      others (O h) (i h) (h .less3 .result) (h .less3 .ensures .marks),
+      blocking-within (S h .pre),
       inside h,
-      run-for (tb (S h)) (same (O h)) (i h)
-          (q (I a)) (tried-high (I a)),
-      a .loop .inv .0 .low,
+      run-for (tb (S h)) (same (O h)) (i h) (q (I a)) (working (I a) .most),
+      a .loop .inv .low,
       job-few (J a),
-      omega (arith, within a, short h),
+      omega (arith, within a),
     )
 
-loop-less :
-    tie.Need-loop-less Inv-loop μ-loop Inv-jobs μ-jobs Inv-lengths μ-lengths Inv-rows μ-rows
+loop-less : Under tie.Need-loop-less
 loop-less c =
     let a = c .before .before .before .before in
-    omega (
-      arith,
-      a .loop .inv .0 .climbing .up,
-      c .before .start-side .ensures,
-      turned a,
-      c .if2 .left,
-      within a,
-      short
-          (R (I a)),
-    )
+    omega (arith, a .loop .inv .climbing .up, c .before .start-side .ensures, turned a, c .if2 .left, within a)
 
-loop-again :
-    tie.Need-loop-again Inv-loop μ-loop Inv-jobs μ-jobs Inv-lengths μ-lengths Inv-rows μ-rows
+loop-again : Under tie.Need-loop-again
 loop-again c =
     let a = c .before .before .before .before in
-    let x = I a in
-    let h = R x in (
-      subst (Trial (tb (S h)) (P h) (b (S h)) (i h) (L h) (q x) (J a .jobs .k))
-          (sym (c .before .start-side .ensures ∙ turned a))
-          (trial-again (tb (S h)) (P h) (b (S h)) (i h) (L h) (q x) (pos (S h)) (inside h) (active h) (tried-low x)
-          (tried-high x) (a .loop .inv .0)),
-      a .loop .inv .1,
-    )
+    rw (c .before .start-side .ensures ∙ turned a) (trial-again (working (I a)) (a .loop .inv))
 
--- ---- where a value repeats
-module _ (d : tie.Then2 Inv-loop μ-loop Inv-jobs μ-jobs Inv-lengths μ-lengths Inv-rows μ-rows) where
-  abbrev E : tie.At-loop Inv-loop μ-loop Inv-jobs μ-jobs Inv-lengths μ-lengths Inv-rows μ-rows
-  E = d .before .before .before .before
-
-  repeats : E .loop .s ≡ side E (E .loop .s)
-  repeats = sym (d .if2 .taken) ∙ d .before .start-side .ensures ∙ turned E
-
-abbrev B : tie.Else3 Inv-loop μ-loop Inv-jobs μ-jobs Inv-lengths μ-lengths Inv-rows μ-rows →
-    tie.At-loop Inv-loop μ-loop Inv-jobs μ-jobs Inv-lengths μ-lengths Inv-rows μ-rows
-B c = E (c .before .before)
-
-add-larger : tie.Need-add-larger Inv-loop μ-loop Inv-jobs μ-jobs Inv-lengths μ-lengths Inv-rows μ-rows
-add-larger d = omega (arith, within (E d), short (R (I (E d))))
-
-sub-larger : tie.Need-sub-larger Inv-loop μ-loop Inv-jobs μ-jobs Inv-lengths μ-lengths Inv-rows μ-rows
-sub-larger d = omega (arith, kept-after (working (I (E d))) (E d .loop .inv .0) (repeats d))
-
-larger-requires : tie.Need-larger-requires Inv-loop μ-loop Inv-jobs μ-jobs Inv-lengths μ-lengths Inv-rows μ-rows
-larger-requires d κs = search needs
-
-add-k : tie.Need-add-k Inv-loop μ-loop Inv-jobs μ-jobs Inv-lengths μ-lengths Inv-rows μ-rows
-add-k c = omega (arith, job-few (J (B c)))
-
-add-s : tie.Need-add-s Inv-loop μ-loop Inv-jobs μ-jobs Inv-lengths μ-lengths Inv-rows μ-rows
-add-s c = let a = B c in omega (arith, within a, short (R (I a)), runs (R (I a)) .high)
-
-jobs-less :
-    tie.Need-jobs-less Inv-loop μ-loop Inv-jobs μ-jobs Inv-lengths μ-lengths Inv-rows μ-rows
+jobs-less : Under tie.Need-jobs-less
 jobs-less c =
-    let a = B c in
-    omega (arith, a .loop .inv .0 .high, I a .before .before .before .round-up .ensures)
+    let a = E (c .before .before) in
+    omega (arith, a .loop .inv .high, I a .before .before .before .round-up .ensures)
 
-jobs-again :
-    tie.Need-jobs-again Inv-loop μ-loop Inv-jobs μ-jobs Inv-lengths μ-lengths Inv-rows μ-rows
+jobs-again : Under tie.Need-jobs-again
 jobs-again c =
     let d = c .before .before in
-    let a = E d in
-    let x = I a in
-    let h = R x in
-    let k = J a .jobs .k in
-    let e : k ≡ k + 1 - 1 = omega arith in (
-      trial-next (tb (S h)) (P h) (b (S h)) (i h) (L h) (q x) (pos (S h)) (inside h) (active h) (tried-low x)
-          (tried-high x) (a .loop .inv .0)
-          (repeats d) (d .before .before .before .if1 .left)
-          (omega (arith, a .loop .inv .0 .high, x .before .before .before .round-up .ensures, c .if3 .left)),
-      subst (λ m. Passed (tb (S h)) (P h) (b (S h)) (i h) (q x) m (c .before .larger .result)) e
-          (subst (Passed (tb (S h)) (P h) (b (S h)) (i h) (q x) k) (sym (c .before .larger .ensures))
-          (kept-more (working x) (a .loop .inv .0) (repeats d) (a .loop .inv .1))),
-    )
+    let t = E d .loop .inv in
+    rw (c .before .larger .ensures)
+    (trial-next (working (I (E d))) t (repeats d) (d .before .before .before .if1 .left)
+    (omega (arith, t .high, I (E d) .before .before .before .round-up .ensures, c .if3 .left)))
 
-add-low : tie.Need-add-low Inv-loop μ-loop Inv-jobs μ-jobs Inv-lengths μ-lengths Inv-rows μ-rows
-add-low c = let x = I (c .before .before) in omega (arith, tried-high x, runs (R x) .high)
-
-next-length-requires :
-    tie.Need-next-length-requires
-    Inv-loop
-    μ-loop
-    Inv-jobs
-    μ-jobs
-    Inv-lengths
-    μ-lengths
-    Inv-rows
-    μ-rows
+next-length-requires : Under tie.Need-next-length-requires
 next-length-requires c κs =
-    let x = I (c .before .before) in
-    let w = x .before .lengths .inv .0 in
-    let l = x .lengths-test .taken in
-    let t : top (x .before .before) ≤ 1000000 = omega (arith, top-le (x .before .before), runs (R x) .high) in
-    ⊎-elim
-    (λ o. (omega (arith, o .1, w .next l .1, w .within), t, omega (arith, o .0, o .1, w .next l .0)))
-    (λ o. (omega (arith, o .1, w .within), t, omega (arith, o .0, o .1, w .next l .1)))
-    (outcome c)
+    let k = I (c .before .before) .before .before in
+    let w = outcome c .0 in
+    (w .within, omega (arith, top-le k, runs (H k) .high), w .order)
 
-lengths-less :
-    tie.Need-lengths-less Inv-loop μ-loop Inv-jobs μ-jobs Inv-lengths μ-lengths Inv-rows μ-rows
-lengths-less c =
-    let x = I (c .before .before .before) in
-    let w = x .before .lengths .inv .0 in
-    let l = x .lengths-test .taken in
-    ⊎-elim
-    (λ o. omega (arith, o .0, o .1, w .next l .1, w .next l .0))
-    (λ o. omega (arith, o .0, o .1, w .next l .1, w .next l .0))
-    (outcome (c .before))
+lengths-less : Under tie.Need-lengths-less
+lengths-less c = outcome (c .before) .1
 
-lengths-again :
-    tie.Need-lengths-again Inv-loop μ-loop Inv-jobs μ-jobs Inv-lengths μ-lengths Inv-rows μ-rows
-lengths-again c =
-    let x = I (c .before .before .before) in
-    let h = R x in
-    let w = x .before .lengths .inv .0 in
-    let l = x .lengths-test .taken in
-    ⊎-elim
-    (λ o. (
-      narrowed-fits (tb (S h)) (P h) (b (S h)) (i h) (top (x .before .before)) w l (o .2) (o .0) (o .1)
-          (c .next-length .ensures),
-      λ _. subst (λ m. Response (tb (S h)) (P h) (b (S h)) (i h) m (c .before .if4 .time)) (sym (o .1)) (o .3),
-    ))
-    (λ o. (
-      narrowed-misses (tb (S h)) (P h) (b (S h)) (i h) (top (x .before .before)) (pos (S h)) (inside h)
-          (top-le (x .before .before)) w l (o .2)
-          (o .0) (o .1) (c .next-length .ensures),
-      λ g.
-          subst (Response (tb (S h)) (P h) (b (S h)) (i h) (c .before .if4 .high)) (sym (o .3))
-          (subst (λ m. Response (tb (S h)) (P h) (b (S h)) (i h) m (x .before .lengths .time)) (sym (o .1))
-          (x .before .lengths .inv .1 (omega (arith, o .1)))),
-    ))
-    (outcome (c .before))
+lengths-again : Under tie.Need-lengths-again
+lengths-again c = (outcome (c .before) .0, c .next-length .ensures)
 
--- ---- the row in hand takes the rank
-better : (c : tie.Then5 Inv-loop μ-loop Inv-jobs μ-jobs Inv-lengths μ-lengths Inv-rows μ-rows) → let a = c .before in
-    let h = H (K a) in
-    Seen (tb (S h)) (U (S h)) (b (S h)) (marked (S h .args .tried)) (i h) (high a) (h .before .less2 .result)
-better c =
-    let a = c .before in
-    let h = H (K a) in
-    let w = a .before .lengths .inv .0 in
-    seen-better (tb (S h)) (U (S h)) (b (S h)) (marked (S h .args .tried)) (row h) (best h) _ (i h) _ (top (K a))
-    (seen h) (h .before .before .next2 .ensures)
-    (h .before .less2 .ensures) (inside h) (K a .cap-of .ensures) (high a) (omega (arith, w .some, w .order))
-    (c .if5 .taken)
-    (fits-here a (w .found (c .if5 .taken))) (none-shorter a)
+rows-less : Under tie.Need-rows-less
+rows-less c = pos-of-ne-zero (G (c .before .before) .before .before .before .rows-test .taken)
 
--- with the response of its shortest length
-timed : (c : tie.Then5 Inv-loop μ-loop Inv-jobs μ-jobs Inv-lengths μ-lengths Inv-rows μ-rows) → let a = c .before in
-    let h = H (K a) in
-    Response (tb (S h)) (without (U (S h)) (i h)) (b (S h)) (i h) (high a) (a .before .lengths .time)
-timed c =
-    let a = c .before in
-    let h = H (K a) in
-    subst (λ Q. Response (tb (S h)) Q (b (S h)) (i h) (high a) (a .before .lengths .time)) (marks h)
-    (a .before .lengths .inv .1 (c .if5 .taken))
+rows-again : Under tie.Need-rows-again
+rows-again c = seen-one (c .if6 .taken) (better (c .before .before) (c .before .if5 .taken))
 
-rows-less :
-    tie.Need-rows-less Inv-loop μ-loop Inv-jobs μ-jobs Inv-lengths μ-lengths Inv-rows μ-rows
-rows-less c = pos-of-ne-zero (H (K (c .before .before)) .before .before .before .rows-test .taken)
+rows-again-2 : Under tie.Need-rows-again-2
+rows-again-2 c = better (c .before .before) (c .before .if5 .taken)
 
-rows-again :
-    tie.Need-rows-again Inv-loop μ-loop Inv-jobs μ-jobs Inv-lengths μ-lengths Inv-rows μ-rows
-rows-again c =
-    let a = c .before .before in
-    let h = H (K a) in (
-      subst (λ x. Seen (tb (S h)) (U (S h)) (b (S h)) (marked (S h .args .tried)) (i h) x 0) (sym (c .if6 .taken))
-          (seen-one (tb (S h)) (U (S h)) (b (S h)) (marked (S h .args .tried)) (i h) (h .before .less2 .result)
-          (subst (λ x. Seen (tb (S h)) (U (S h)) (b (S h)) (marked (S h .args .tried)) (i h) x
-          (h .before .less2 .result)) (c .if6 .taken) (better (c .before)))),
-      λ _. timed (c .before),
-    )
+rows-again-3 : Under tie.Need-rows-again-3
+rows-again-3 c = unchanged (c .before) (c .if5 .left)
 
-rows-less-2 :
-    tie.Need-rows-less-2 Inv-loop μ-loop Inv-jobs μ-jobs Inv-lengths μ-lengths Inv-rows μ-rows
-rows-less-2 c = H (K (c .before .before)) .before .less2 .ensures .smaller
+returns : Under tie.Need-returns
+returns c = seen-none (c .before .before .rows .inv) (c .before .rows-test .left) (c .if7 .taken)
 
-rows-again-2 :
-    tie.Need-rows-again-2 Inv-loop μ-loop Inv-jobs μ-jobs Inv-lengths μ-lengths Inv-rows μ-rows
-rows-again-2 c = (better (c .before), λ _. timed (c .before))
-
-rows-less-3 :
-    tie.Need-rows-less-3 Inv-loop μ-loop Inv-jobs μ-jobs Inv-lengths μ-lengths Inv-rows μ-rows
-rows-less-3 c = H (K (c .before)) .before .less2 .ensures .smaller
-
-rows-again-3 :
-    tie.Need-rows-again-3 Inv-loop μ-loop Inv-jobs μ-jobs Inv-lengths μ-lengths Inv-rows μ-rows
-rows-again-3 c =
-    let a = c .before in
-    let h = H (K a) in (
-      seen-same (tb (S h)) (U (S h)) (b (S h)) (marked (S h .args .tried)) (row h) (best h) _ (i h) _ (top (K a))
-          (seen h) (h .before .before .next2 .ensures)
-          (h .before .less2 .ensures) (inside h) (K a .cap-of .ensures)
-          (λ m o l. none-shorter a m o (omega (arith, c .if5 .left))),
-      h .before .before .before .before .rows .inv .1,
-    )
-
-returns : tie.Need-returns Inv-loop μ-loop Inv-jobs μ-jobs Inv-lengths μ-lengths Inv-rows μ-rows
-returns c =
-    let s = c .before .before .before .before .before .before .before .before .before .before in
-    let r = c .before .before .rows .row in
-    seen-none (tb s) (U s) (b s) (marked (s .args .tried)) r
-    (subst (λ x. Seen (tb s) (U s) (b s) (marked (s .args .tried)) r x 0) (c .if7 .taken) (ended (c .before)))
-
-cast-t58 : tie.Need-cast-t58 Inv-loop μ-loop Inv-jobs μ-jobs Inv-lengths μ-lengths Inv-rows μ-rows
+cast-t58 : Under tie.Need-cast-t58
 cast-t58 c =
-    let s = c .before .before .before .before .before .before .before .before .before .before in
-    let f = ended (c .before) .found (pos-of-ne-zero (c .if7 .left)) in
-    omega (arith, f .2 .holds .0, s .pre .sound .C (c .before .before .rows .row) (f .0) .high)
+    let r = c .before .before in
+    let f = r .rows .inv .found (pos-of-ne-zero (c .if7 .left)) in
+    omega (arith, f .2 .holds .0, begun (r .before) .pre .sound .C (r .rows .row) (f .0) .high)
 
-cast-t59 : tie.Need-cast-t59 Inv-loop μ-loop Inv-jobs μ-jobs Inv-lengths μ-lengths Inv-rows μ-rows
+cast-t59 : Under tie.Need-cast-t59
 cast-t59 c =
-    let s = c .before .before .before .before .before .before .before .before .before .before in
     let r = c .before .before .rows in
+    let s = begun (c .before .before .before) in
     let some = pos-of-ne-zero (c .if7 .left) in
-    let f = ended (c .before) .found some in
+    let f = r .inv .found some in
     let x = f .2 .holds .1 in
-    omega (
-      arith,
-      x .within,
-      s .pre .sound .D (r .row) (f .0) .high,
-      response-unique (tb s) (without (U s) (r .row)) (b s) (r .row) (r .best) (r .response) (x .R) (r .inv .1 some)
-          (x .response),
-    )
+    let same = response-unique (tb s) (without (U s) (r .row)) (b s) (r .row) (r .best) (r .response) (x .R)
+    (r .inv .timed some) (x .response) in
+    omega (arith, x .within, s .pre .sound .D (r .row) (f .0) .high)
 
-returns-2 :
-    tie.Need-returns-2 Inv-loop μ-loop Inv-jobs μ-jobs Inv-lengths μ-lengths Inv-rows μ-rows
+returns-2 : Under tie.Need-returns-2
 returns-2 c =
-    let s = c .before .before .before .before .before .before .before .before .before .before in
-    let some = pos-of-ne-zero (c .if7 .left) in (
-      seen-all (tb s) (U s) (b s) (marked (s .args .tried)) (c .before .before .rows .row)
-          (c .before .before .rows .best) (ended (c .before)) some,
-      c .before .before .rows .inv .1 some,
-    )
+    let w = c .before .before .rows .inv in
+    let some = pos-of-ne-zero (c .if7 .left) in
+    (seen-all w (c .before .rows-test .left) some, w .timed some)
 
 pub choose-spec : {M : Type 1} → statement M
 choose-spec =
     tie.close
     (tie.spec Inv-loop μ-loop Inv-jobs μ-jobs Inv-lengths μ-lengths Inv-rows μ-rows (λ c κs. search needs)
-    next-requires less-requires (λ c. search needs) active-side-requires (λ c. search needs)
-    active-period-requires rows-holds next-requires-2 less-requires-2 less-requires-3 (λ c. search needs)
-    (λ c. search needs) (λ c. search needs) (λ c. search needs) (λ c. search needs) round-up-requires
-    (λ c κs. search needs) add-high lengths-holds sub-s jobs-holds sub-released mul-released
-    (λ c. search needs) add-due loop-holds add-if1 (λ c. search needs) start-side-requires loop-less
-    loop-again add-larger sub-larger larger-requires add-k add-s jobs-less jobs-again add-low
-    next-length-requires lengths-less lengths-again rows-less rows-again rows-less-2 rows-again-2 rows-less-3
-    rows-again-3 returns cast-t58 cast-t59 returns-2)
+    (λ c κs. c .before .pre .some) (λ c κs. (c .next .ensures .inside, c .next .ensures .first .holds))
+    (λ c. search needs) active-side-requires (λ c. search needs) active-period-requires rows-holds
+    (λ c κs. pos-of-ne-zero (c .rows-test .taken))
+    (λ c κs. (c .next2 .ensures .inside, c .next2 .ensures .first .holds)) less-requires-3 (λ c. search needs)
+    (λ c. search needs) (λ c. search needs) (λ c. search needs) (λ c. search needs)
+    (λ c κs. let h = c .before .before .before in (spaced h .low, omega (arith, short h, spaced h .high)))
+    (λ c κs. search needs) (λ c. omega (arith, top-le c, runs (H c) .high)) lengths-holds sub-s jobs-holds
+    (λ c. c .jobs .inv .low) (λ c. omega (arith, released c)) (λ c. search needs) add-due loop-holds
+    (λ c. omega (arith, within c)) (λ c. search needs) start-side-requires loop-less loop-again
+    (λ c. omega (arith, within (E c)))
+    (λ c. omega (arith, trial-after (working (I (E c))) (E c .loop .inv) (repeats c))) (λ c κs. search needs)
+    (λ c. omega (arith, job-few (J (E (c .before .before)))))
+    (λ c. let a = E (c .before .before) in omega (arith, within a, runs (R (I a)) .high)) jobs-less jobs-again
+    (λ c. let x = I (c .before .before) in omega (arith, working x .most, runs (R x) .high))
+    next-length-requires lengths-less lengths-again rows-less rows-again
+    (λ c. G (c .before .before) .before .less2 .ensures .smaller) rows-again-2
+    (λ c. G (c .before) .before .less2 .ensures .smaller) rows-again-3 returns cast-t58 cast-t59 returns-2)
