@@ -131,7 +131,7 @@ module _ (tb : Table) where
           chosen = chosen;
           responses =
               record {
-                each = λ j l. timed-response tb (planOf plan) j (getD times j 0) chosen l
+                each = λ j l. timed-response tb (planOf plan) chosen l
                     (g .timed j l (ap (λ x. marked x j) e ∙ none j));
                 past = g .times-past;
                 whole = g .whole;
@@ -191,10 +191,8 @@ module _ (tb : Table) where
           let p = planOf plan in
           let p′ = planOf (put plan (rank rest) y q) in
           let s = suc (rank left) in
-          timed-at tb (unplaced p s) (blocking tb p s) p′ y s q R (agree-alike tb p p′ s (agree s (omega arith)))
-          (placed-y .rank) (placed-y .len)
-          (subst (λ v. Response tb (without (unplaced p v) y) (blocking tb p v) y q R) (sym one-less)
-          (response-alike tb (marked rest) (unplaced p (rank rest)) b (blocking tb p (rank rest)) y q R level-alike x))
+          timed-at p′ (agree-alike tb p p′ s (agree s (omega arith))) (placed-y .rank) (placed-y .len)
+          (rw one-less (response-alike level-alike x))
 
       timed-other : (j T : ℕ) → j < tb .n → ¬ (j ≡ y) → marked rest j ≡ false → Timed tb (planOf plan) j T →
           Timed tb (planOf (put plan (rank rest) y q)) j T
@@ -203,8 +201,7 @@ module _ (tb : Table) where
           let p′ = planOf (put plan (rank rest) y q) in
           let s = p .rank j in
           let o = placed-y .others j l ne in
-          timed-at tb (unplaced p s) (blocking tb p s) p′ j s (p .len j) T
-          (agree-alike tb p p′ s (agree s (omega (arith, g .placed j l m, one-less)))) (o .0) (o .1) r
+          timed-at p′ (agree-alike tb p p′ s (agree s (omega (arith, g .placed j l m, one-less)))) (o .0) (o .1) r
 
       pub going-more : Going (put plan (rank rest) y q) (set times y R) left (max b (q - 1))
       going-more =

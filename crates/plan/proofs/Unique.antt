@@ -30,8 +30,7 @@ module _ (tb : Table) (out : List ℕ) (pos : Positive tb) (v w : ℕ) (l m : Li
   same-response : (i : ℕ) → i < tb .n → responseIn l i ≡ responseIn m i
   same-response i h =
       response-unique tb _ _ i _ (responseIn l i) (responseIn m i)
-      (response-plans tb (plannedOf l) (plannedOf m) i (responseIn l i) same-plan h (a .responses i h))
-      (b .responses i h)
+      (response-plans (plannedOf l) (plannedOf m) same-plan h (a .responses i h)) (b .responses i h)
 
   -- a number of the planned rows is a rank, a length or a response
   same-front : (k : ℕ) → k < 3 * tb .n → getD l k 0 ≡ getD m k 0

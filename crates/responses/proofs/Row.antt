@@ -58,9 +58,7 @@ module _ {tb : Table} {ps : List ℕ} {i set b : ℕ} (p : Placed tb ps i set b)
       }
 
   pub response-here : {R : ℕ} → Response tb (marked set) b i (planOf ps .len i) R → ResponseOf tb (planOf ps) i R
-  response-here {R} x =
-      subst (λ z. Response tb P z i (planOf ps .len i) R) blocked
-      (response-same tb (marked set) P b i (planOf ps .len i) R agree x)
+  response-here x = response-same agree blocked x
 
   pub response-small : {R : ℕ} → Response tb (marked set) b i (planOf ps .len i) R → R ≤ horizon
   response-small {R} x =

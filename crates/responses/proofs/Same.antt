@@ -1,7 +1,7 @@
 -- The rows below n alone count: two tests of the rows above that agree on them give the same periods, starts and
 -- responses.
 use Prim.Native.Nat.{ℕ, _<_}
-use mathlib.Core.Path.{_≡_, sym, _∙_}
+use mathlib.Core.Path.{_≡_, sym, _∙_, subst}
 use mathlib.Core.Bool.{Bool}
 use native.Mathlib.Omega.{arith}
 use Rattle.tables.specs.Table.{Table}
@@ -37,14 +37,15 @@ module _ (tb : Table) (P Q : ℕ → Bool) (b i : ℕ) (same : Agree tb P Q) whe
         ends = x .ends;
       }
 
-pub response-same : (tb : Table) (P Q : ℕ → Bool) (b i q R : ℕ) → Agree tb P Q → Response tb P b i q R →
-    Response tb Q b i q R
-response-same tb P Q b i q R same r =
-    record {
+pub response-same : {tb : Table} {P Q : ℕ → Bool} {b b′ i q R : ℕ} → Agree tb P Q → b ≡ b′ → Response tb P b i q R →
+    Response tb Q b′ i q R
+response-same {tb} {P} {Q} {b} {b′} {i} {q} {R} same e r =
+    subst (λ x. Response tb Q x i q R) e
+    (record {
       period = r .period;
       active = active-same tb P Q b i same (r .active);
       job = r .job;
       counts = r .counts;
       reached = finish-same tb P Q b i same (r .reached);
       highest = λ k f h x. r .highest k f h (finish-same tb Q P b i (agree-sym tb P Q same) x);
-    }
+    })

@@ -18,19 +18,14 @@ loop-holds : tie.Need-loop-holds Inv-loop μ-loop
 loop-holds c = (search needs, below-none _)
 
 returns : tie.Need-returns Inv-loop μ-loop
-returns c all = omega (
-  arith,
-  all (c .before .before .before .before .loop .i)
-      (c .before .before .before .loop-test .taken),
-  c .if1 .taken,
-)
+returns c all =
+    let l = c .before .before .before in
+    omega (arith, all (l .before .loop .i) (l .loop-test .taken), c .if1 .taken)
 
 loop-again : tie.Need-loop-again Inv-loop μ-loop
-loop-again c = (
-  search needs,
-  below-more _ _ (c .before .before .before .before .loop .inv .1)
-      (let l = c .if1 .left in omega arith),
-)
+loop-again c =
+    let l = c .if1 .left in
+    (search needs, below-more _ _ (c .before .before .before .before .loop .inv .1) (omega arith))
 
 returns-2 : tie.Need-returns-2 Inv-loop μ-loop
 returns-2 c j h = c .before .loop .inv .1 j (omega arith)

@@ -1,6 +1,7 @@
 -- `write` meets its contract: the rows passed are written, the others are as they were.
-use Prim.Native.Nat.{_≤_, _-_}
+use Prim.Native.Nat.{_≤_, _<_, _-_}
 use mathlib.Core.Path.{_≡_}
+use lib.ListN.{length}
 use native.Mathlib.Omega.{arith}
 use borrow.Author.Needs.{needs}
 use Rattle.times.specs.inside.Given.{Written}
@@ -17,20 +18,14 @@ abbrev μ-loop : tie.MeasureT-loop
 loop-holds : tie.Need-loop-holds Inv-loop μ-loop
 loop-holds c = (search needs, written-none (c .args .t1) (c .args .out .now))
 
-slice-write-out : tie.Need-slice-write-out Inv-loop μ-loop
-slice-write-out c = omega (arith, c .before .loop .inv .1 .whole, c .before .before .pre .1, c .loop-test .taken)
+-- place i lies in the output
+inside : (c : tie.In-loop Inv-loop μ-loop) → c .before .loop .i < length (c .before .loop .out)
+inside c = omega (arith, c .before .loop .inv .1 .whole, c .before .before .pre .1, c .loop-test .taken)
 
 loop-again : tie.Need-loop-again Inv-loop μ-loop
 loop-again c =
-    let a = c .before .before .args in
-    let here = c .before .loop in (
-      search needs,
-      written-more (a .t1) (a .out .now) (here .i) (here .out) (here .inv .1)
-          (omega (arith, here .inv .1 .whole, c .before .before .pre .1, c .loop-test .taken)),
-    )
-
-same-length : tie.Need-same-length Inv-loop μ-loop
-same-length c = c .before .loop .inv .1 .whole
+    let l = c .before .loop in
+    (search needs, written-more _ _ (l .i) (l .out) (l .inv .1) (inside c))
 
 returns : tie.Need-returns Inv-loop μ-loop
 returns c =
@@ -41,4 +36,4 @@ pub write-spec : {M : Type 1} → statement M
 write-spec =
     tie.close
     (tie.spec Inv-loop μ-loop loop-holds (λ c. search needs) (λ c. search needs) (λ c. search needs)
-    slice-write-out (λ c. search needs) (λ c. search needs) loop-again same-length returns)
+    inside (λ c. search needs) (λ c. search needs) loop-again (λ c. c .before .loop .inv .1 .whole) returns)
