@@ -1,6 +1,6 @@
 -- Any two answers that the promise of `plan` allows are equal.
 use Prim.Native.Nat.{ℕ, _+_, _*_, _/_, _<_}
-use mathlib.Core.Path.{_≡_, sym, ap, _∙_}
+use mathlib.Core.Path.{_≡_, sym, _∙_}
 use mathlib.Core.List.{List, [], _∷_}
 use native.Mathlib.Omega.{arith}
 use lib.ListN.{getD}
@@ -38,13 +38,11 @@ module _ (tb : Table) (out : List ℕ) (pos : Positive tb) (v w : ℕ) (l m : Li
       let i = k / 3 in
       let g : i < tb .n = omega arith in
       by-eq k (3 * i)
-      (λ e. ap (λ x. getD l x 0) e ∙ same-plan i g .0 ∙ ap (λ x. getD m x 0) (sym e))
+      (λ e. rw e (same-plan i g .0))
       (λ c.
       by-eq k (3 * i + 1)
-      (λ e. ap (λ x. getD l x 0) e ∙ same-plan i g .1 ∙ ap (λ x. getD m x 0) (sym e))
-      (λ d.
-      let e : k ≡ 3 * i + 2 = omega arith in
-      ap (λ x. getD l x 0) e ∙ same-response i g ∙ ap (λ x. getD m x 0) (sym e)))
+      (λ e. rw e (same-plan i g .1))
+      (λ d. let e : k ≡ 3 * i + 2 = omega arith in rw e (same-response i g)))
 
   plan-given-one : (v ≡ w) × (l ≡ m)
   plan-given-one = (

@@ -41,28 +41,23 @@ module _ (ps ts : List ℕ) where
 
   -- one row more: what a turn of the loop does
   pub planned-more : (o : List ℕ) (i : ℕ) →
-      putMid (3 * i) (3 * i + 3 - 3 * i) (planned ps ts i ++ drop (3 * i) o) (row i) ≡ planned ps ts (i + 1)
-      ++ drop (3 * (i + 1)) o
+      putMid (3 * i) (3 * i + 3 - 3 * i) (planned ps ts i ++ drop (3 * i) o) (row i)
+      ≡ planned ps ts (i + 1) ++ drop (3 * (i + 1)) o
   planned-more o i =
       let k : 3 * i + 3 - 3 * i ≡ 3 = omega arith in
-      let m : 3 * i + 3 ≡ 3 * (i + 1) = omega arith in
-      rw k
-      (behind (planned ps ts i) (drop (3 * i) o) (row i) (3 * i) 3 (length-planned i)
-      ∙ ap (λ z. (planned ps ts i ++ row i) ++ z) (drop-drop 3 (3 * i) o ∙ ap (λ j. drop j o) m)
-      ∙ ap (λ z. z ++ drop (3 * (i + 1)) o) (sym (ap (planned ps ts) (add-one i) ∙ planned-next i)))
+      let m : 3 * (i + 1) ≡ 3 * i + 3 = omega arith in
+      rw (k, m, add-one i, planned-next i, ← drop-drop 3 (3 * i) o)
+      (behind (planned ps ts i) (drop (3 * i) o) (row i) (3 * i) 3 (length-planned i))
 
   -- row i of n, read at its place
   pub planned-at : (n i x : ℕ) → i < n → x < 3 → getD (planned ps ts n) (3 * i + x) 0 ≡ getD (row i) x 0
   planned-at zero i x h l = absurd (omega arith)
   planned-at (suc n) i x h l =
-      ap (λ z. getD z (3 * i + x) 0) (planned-next n)
-      ∙ by-eq i n
-      (λ e.
-      let q : 3 * i + x ≡ length (planned ps ts n) + x = omega (arith, length-planned n) in
-      ap (λ k. getD (planned ps ts n ++ row n) k 0) q ∙ getD-append-add (planned ps ts n) (row n) x 0
-      ∙ ap (λ k. getD (row k) x 0) (sym e))
-      (λ e. List·getD-append (planned ps ts n) (row n) 0 (3 * i + x) (omega (arith, length-planned n))
-      ∙ planned-at n i x (omega arith) l)
+      by-eq i n
+      (λ e. rw (planned-next n, e, ← length-planned n)
+      (getD-append-add (planned ps ts n) (row n) x 0 ∙ ap (λ k. getD (row k) x 0) (sym e)))
+      (λ e. rw (planned-next n) (List·getD-append (planned ps ts n) (row n) 0 (3 * i + x)
+      (omega (arith, length-planned n)) ∙ planned-at n i x (omega arith) l))
 
   module _ (n : ℕ) (out : List ℕ) (fits : 3 * n ≤ length out) where
     pub written-whole : length (planned ps ts n ++ drop (3 * n) out) ≡ length out

@@ -1,11 +1,11 @@
 -- `write` meets its contract: a turn of the loop puts one planned row into its own part.
-use Prim.Native.Nat.{ℕ, _≤_, _+_, _*_, _-_}
-use mathlib.Core.Path.{_≡_, refl, sym, ap, _∙_, subst}
-use mathlib.Core.List.{List, _++_}
+use Prim.Native.Nat.{_≤_, _+_, _*_, _-_}
+use mathlib.Core.Path.{_≡_, refl, _∙_}
+use mathlib.Core.List.{_++_}
 use native.Mathlib.Omega.{arith}
 use lib.ListN.{length, drop}
 use borrow.Author.Needs.{needs}
-use borrow.Rule.Slice.PartMut.{putMid, same-len-mid}
+use borrow.Rule.Slice.PartMut.{same-len-mid}
 use Rattle.plan.specs.inside.Given.{planned}
 use Rattle.plan.proofs.Written.{planned-none, planned-more}
 use Rattle.plan.proofs.write.Statement.{statement}
@@ -21,7 +21,7 @@ abbrev μ-loop : tie.MeasureT-loop
 loop-holds : tie.Need-loop-holds Inv-loop μ-loop
 loop-holds c =
     let a = c .before .args in
-    (search needs, refl, ap (λ (z : List ℕ). z ++ a .out .now) (sym (planned-none (a .t1) (a .t2))))
+    (search needs, refl, rw (planned-none (a .t1) (a .t2)))
 
 loop-again : tie.Need-loop-again Inv-loop μ-loop
 loop-again c =
@@ -30,18 +30,13 @@ loop-again c =
     let p = c .before .before .put-row in (
       search needs,
       same-len-mid (3 * l .i) (3 * l .i + 3 - 3 * l .i) (l .out) (p .last .0) (p .kept .0) ∙ l .inv .1,
-      ap (λ (o : List ℕ). putMid (3 * l .i) (3 * l .i + 3 - 3 * l .i) o (p .last .0)) (l .inv .2)
-          ∙ ap (putMid (3 * l .i) (3 * l .i + 3 - 3 * l .i)
-          (planned (a .t1) (a .t2) (l .i) ++ drop (3 * l .i) (a .out .now))) (p .ensures)
-          ∙ planned-more (a .t1) (a .t2) (a .out .now) (l .i),
+      rw (l .inv .2, p .ensures) (planned-more (a .t1) (a .t2) (a .out .now) (l .i)),
     )
 
 returns : tie.Need-returns Inv-loop μ-loop
 returns c =
-    let a = c .before .before .before .args in
-    let e : c .before .loop .i ≡ a .n = omega arith in
-    subst (λ (i : ℕ). c .before .loop .out ≡ planned (a .t1) (a .t2) i ++ drop (3 * i) (a .out .now)) e
-    (c .before .loop .inv .2)
+    let e : c .before .loop .i ≡ c .before .before .before .args .n = omega arith in
+    rw e at (c .before .loop .inv .2)
 
 pub write-spec : {M : Type 1} → statement M
 write-spec =

@@ -1,20 +1,18 @@
 -- `fill` meets its contract: each turn places the row that takes the rank, and the rank is the number of rows left.
 use Prim.Native.Nat.{ℕ, _<_}
-use mathlib.Core.Path.{sym, subst}
+use mathlib.Core.Path.{subst}
 use native.Mathlib.Nat.{pos-of-ne-zero}
 use native.Mathlib.Omega.{arith}
-use lib.ListN.{set}
 use borrow.Author.Needs.{needs}
-use Rattle.counting.specs.Sum.{without}
 use Rattle.marks.specs.inside.Marks.{marked}
 use Rattle.marks.proofs.Marks.{count-something}
 use Rattle.tables.specs.Table.{Table}
 use Rattle.tables.specs.inside.Rows.{tableIn}
-use Rattle.test.specs.Test.{Response}
 use Rattle.test.proofs.Load.{Positive, sound-positive}
-use Rattle.choice.specs.Choice.{Takes}
 use Rattle.search.specs.inside.Choose.{Picked}
-use Rattle.plan.proofs.Going.{Going, rank, put, going-first, going-room, going-stops, going-ends, going-more}
+use Rattle.search.specs.declared.Pick.{Pick}
+use Rattle.search.specs.declared.Pick.the-variants.{Taken}
+use Rattle.plan.proofs.Going.{Going, going-first, going-room, going-stops, going-ends, going-more}
 use Rattle.plan.proofs.filling.fill.Statement.{statement}
 use Rattle.plan.proofs.filling.fill.Tie as tie
 
@@ -30,11 +28,11 @@ module _ (c : tie.At-loop Inv-loop μ-loop) where
   abbrev tb : Table
   tb = tableIn (c .before .before .args .rows) (c .before .before .args .n)
 
-  abbrev b : ℕ
-  b = c .loop .blocking
-
   abbrev U : ℕ
   U = c .loop .unplaced
+
+  abbrev Picks : Pick → Type 0
+  Picks = Picked tb (marked U) (c .loop .blocking) (marked U)
 
   pos : Positive tb
   pos = sound-positive tb (c .before .before .pre .0)
@@ -50,21 +48,14 @@ module _ (c : tie.After-known-told Inv-loop μ-loop) where
   abbrev y : ℕ
   y = c .before .pick .given .0 .0
 
-  abbrev q : ℕ
-  q = c .before .pick .given .0 .1 .0
-
-  abbrev R : ℕ
-  R = c .before .pick .given .0 .1 .1 .0
-
-  picked : Takes (tb A) (marked (U A)) (b A) (marked (U A)) y q × Response (tb A) (without (marked (U A)) y) (b A) y q R
-  picked = subst (Picked (tb A) (marked (U A)) (b A) (marked (U A))) (c .before .pick .given .1) (S .choose .ensures)
+  picked : Picks A (Taken y (c .before .pick .given .0 .1 .0) (c .before .pick .given .0 .1 .1 .0))
+  picked = subst (Picks A) (c .before .pick .given .1) (S .choose .ensures)
 
   inside : y < 32
   inside = omega (arith, picked .0 .row, A .before .before .pre .0 .few)
 
 loop-holds : tie.Need-loop-holds Inv-loop μ-loop
-loop-holds c = let s = c .before in going-first (tableIn (s .args .rows) (s .args .n)) (s .pre .0) (c .whole .result)
-    (c .whole .ensures)
+loop-holds c = going-first _ (c .before .pre .0) (c .whole .result) (c .whole .ensures)
 
 choose-requires : tie.Need-choose-requires Inv-loop μ-loop
 choose-requires c κs =
@@ -76,59 +67,32 @@ choose-requires c κs =
       some = pos-of-ne-zero (c .before .loop-test .taken);
       among = λ j e. e;
       busy = s .pre .1;
-      room = going-room (tb a) (pos a) (a .loop .plan) (a .loop .times) (U a) (b a) (a .loop .inv);
+      room = going-room (tb a) (pos a) (a .loop .inv);
     }
 
 returns : tie.Need-returns Inv-loop μ-loop
 returns c =
     let d = c .before .before in
     let a = d .before .before .before in
-    going-stops (tb a) (pos a) (a .loop .plan) (a .loop .times) (U a) (b a) (a .loop .inv) (d .before .size .result)
-    (d .before .size .ensures)
+    going-stops (tb a) (pos a) (a .loop .inv) (d .before .size .ensures)
     (count-something (U a) 32 (pos-of-ne-zero (d .before .before .loop-test .taken))
     (λ j m. omega (arith, a .loop .inv .inside j m, a .before .before .pre .0 .few)))
-    (subst (Picked (tb a) (marked (U a)) (b a) (marked (U a))) (c .enum-told .given .1) (d .choose .ensures))
-
-array-write-plan : tie.Need-array-write-plan Inv-loop μ-loop
-array-write-plan c = omega (arith, inside c)
-
-array-write-plan-2 : tie.Need-array-write-plan-2 Inv-loop μ-loop
-array-write-plan-2 c = omega (arith, inside c)
-
-array-write-times : tie.Need-array-write-times Inv-loop μ-loop
-array-write-times c = omega (arith, inside c)
-
-sub-larger : tie.Need-sub-larger Inv-loop μ-loop
-sub-larger c = omega (arith, picked c .0 .shortest .low)
-
-less-requires : tie.Need-less-requires Inv-loop μ-loop
-less-requires c κs = (inside (c .before), picked (c .before) .0 .try)
-
-loop-less : tie.Need-loop-less Inv-loop μ-loop
-loop-less c = c .less .ensures .smaller
+    (subst (Picks a) (c .enum-told .given .1) (d .choose .ensures))
 
 loop-again : tie.Need-loop-again Inv-loop μ-loop
 loop-again c =
     let d = c .before .before in
     let a = A d in
-    let next = going-more (tb a) (pos a) (a .loop .plan) (a .loop .times) (U a) (b a) (a .loop .inv) (y d) (q d) (R d)
-    (c .less .result) (inside d)
-    (picked d .0) (picked d .1) (c .less .ensures) in
-    subst (λ (r : ℕ). Going (tb a) (put (a .loop .plan) r (y d) (q d)) (set (a .loop .times) (y d) (R d))
-    (c .less .result) (c .before .larger .result)) (sym (S d .before .size .ensures))
-    (subst (λ (x : ℕ). Going (tb a) (put (a .loop .plan) (rank (U a)) (y d) (q d)) (set (a .loop .times) (y d) (R d))
-    (c .less .result) x) (sym (c .before .larger .ensures)) next)
-
-returns-2 : tie.Need-returns-2 Inv-loop μ-loop
-returns-2 c =
-    let a = c .before in
-    going-ends (tb a) (pos a) (a .loop .plan) (a .loop .times) (U a) (b a) (a .loop .inv) (c .loop-test .left)
+    rw (S d .before .size .ensures, c .before .larger .ensures)
+    (going-more (tb a) (pos a) (a .loop .inv) (inside d) (picked d .0) (picked d .1) (c .less .ensures))
 
 pub fill-spec : {M : Type 1} → statement M
 fill-spec =
     tie.close
     (tie.spec Inv-loop μ-loop (λ c. search needs) (λ c κs. search needs) loop-holds (λ c κs. search needs)
     choose-requires (λ c. search needs) (λ c. search needs) returns (λ c. search needs) (λ c. search needs)
-    (λ c. search needs) array-write-plan (λ c. search needs) (λ c. search needs) array-write-plan-2
-    (λ c. search needs) array-write-times sub-larger (λ c. search needs) (λ c κs. search needs) less-requires
-    loop-less loop-again returns-2)
+    (λ c. search needs) (λ c. omega (arith, inside c)) (λ c. search needs) (λ c. search needs)
+    (λ c. omega (arith, inside c)) (λ c. search needs) (λ c. omega (arith, inside c))
+    (λ c. omega (arith, picked c .0 .shortest .low)) (λ c. search needs) (λ c κs. search needs)
+    (λ c κs. (inside (c .before), picked (c .before) .0 .try)) (λ c. c .less .ensures .smaller) loop-again
+    (λ c. let a = c .before in going-ends (tb a) (pos a) (a .loop .inv) (c .loop-test .left)))
