@@ -5,26 +5,34 @@ use mathlib.Core.Path.{_≡_, refl, ap}
 use mathlib.Core.Bool.{true}
 use mathlib.Core.List.{List, [], _∷_}
 use native.Mathlib.Omega.{arith}
-use lib.Dec.{ltb}
 use lib.ListN.{length, getD}
-use borrow.Author.Tests.{ltb-true}
 use Rattle.counting.specs.Up.{up}
 use Rattle.counting.specs.Sum.{sum}
-use Rattle.counting.proofs.Search.{all, all-at}
+use Rattle.counting.proofs.Search.{all}
+use Rattle.tables.specs.Table.{Sound, tableOf}
 use Rattle.tables.specs.Refusal.{Result}
+use Rattle.tables.proofs.Clear.{sound-of-clear}
 use Rattle.choice.specs.Answers.{PlanAnswer}
 use Rattle.starred.specs.Figures.{figures, further, wholly, second-table, third-table, three-rows, overloaded-table}
 use Rattle.starred.specs.Figures.{urgent-first, three-thirds, one-tick-over}
-use Rattle.starred.proofs.Clears.{table-test, table-sound}
+use Rattle.starred.proofs.Tests.{Test, less, both, each}
+use Rattle.starred.proofs.Clears.{table-test}
 use Rattle.starred.proofs.Figures.{starred-figures, further-figures}
 use Rattle.plan.proofs.Unique.{plan-unique}
-use Rattle.demands.specs.Versions.{Version, Words, six, nine, BreaksOn, BreaksOnOneOf, RefusesEverything}
+use Rattle.demands.specs.Versions.{Version, Words, Always, six, nine, BreaksOn, BreaksOnOneOf, RefusesEverything}
 use Rattle.demands.specs.Versions.{GivesAFixedPlan, LeavesTheOutput, WritesOnARefusal, SearchesTheLowestOnly}
 use Rattle.demands.specs.Versions.{RanksByDeadline, RefusesByUtilisation, AllRefuted}
 
--- a slice whose numbers the checker finds to be of 32 bits
-words : (xs : List ℕ) → all (λ i. ltb (getD xs i 0) 4294967296) (length xs) ≡ true → Words xs
-words xs e i l = ltb-true _ 4294967296 (all-at (λ i. ltb (getD xs i 0) 4294967296) (length xs) e i l)
+words : (xs : List ℕ) → Test (Words xs)
+words xs = each (length xs) (λ i. less (getD xs i 0) 4294967296)
+
+-- what always holds, on a table and an output whose numbers the checker finds to be of 32 bits
+on : {Holds : List ℕ → List ℕ → Type 0} → Always Holds → (xs out : List ℕ) →
+    both (words xs) (words out) .passes ≡ true → Holds xs out
+on w xs out e = let s = both (words xs) (words out) .shows e in w xs out (s .0) (s .1)
+
+sound : (xs : List ℕ) → table-test xs .passes ≡ true → Sound (tableOf xs)
+sound xs e = let clear = table-test xs .shows e in sound-of-clear xs (clear .0) (clear .1)
 
 -- the number of a result, and what stands at place k of its output
 number-of : {r s : Result} → r ≡ s → r .number ≡ s .number
@@ -52,93 +60,69 @@ module _ (f : Version) where
   at-rows a = plan-unique three-rows nine _ _ a (starred-figures .1 .1 .1 .1 .1 .1 .1 .1 .1 .0 nine refl)
 
   refuses : RefusesEverything f → BreaksOn second-table six f
-  unfolding all
-  refuses w a = omega (arith, w second-table six (words second-table refl) (words six refl), number-of (at-second a))
+  unfolding all words
+  refuses w a = omega (arith, on w second-table six refl, number-of (at-second a))
 
   fixed : GivesAFixedPlan f → BreaksOnOneOf second-table six third-table six f
-  unfolding all
+  unfolding all words
   fixed w a b =
-      let same =
-      w second-table six (words second-table refl) (words six refl) third-table six (words third-table refl)
-      (words six refl)
-      (number-of (at-second a)) (number-of (at-third b)) refl 1 (omega arith) in
-      omega (arith, same .1, number-at (at-second a) 4, number-at (at-third b) 4)
+      let s = at-second a in
+      let t = at-third b in
+      let same = on (on w second-table six refl) third-table six refl (number-of s) (number-of t) refl 1 (omega arith) in
+      omega (arith, same .1, number-at s 4, number-at t 4)
 
   untouched : LeavesTheOutput f → BreaksOn second-table six f
-  unfolding all
+  unfolding all words
   untouched w a =
-      omega (
-        arith,
-        ap (λ (l : List ℕ). getD l 0 0) (w second-table six (words second-table refl) (words six refl)),
-        number-at (at-second a) 0,
-      )
+      omega (arith, ap (λ (l : List ℕ). getD l 0 0) (on w second-table six refl), number-at (at-second a) 0)
 
   -- (2,3,3) (2,3,3): refused 4
   written : WritesOnARefusal f → BreaksOn overloaded-table six f
-  unfolding all figures
+  unfolding all words figures
   written w a =
-      let e =
-      plan-unique overloaded-table six _ _ a
+      let e = plan-unique overloaded-table six _ _ a
       (starred-figures .1 .1 .1 .1 .1 .1 .1 .1 .1 .1 .1 .1 .1 .1 .1 .0 six (omega arith)) in
-      w overloaded-table six (words overloaded-table refl) (words six refl) (omega (arith, number-of e)) (omega arith)
-      (ap (λ (r : Result). r .out) e)
+      on w overloaded-table six refl (omega (arith, number-of e)) (omega arith) (ap (λ (r : Result). r .out) e)
 
   lowest-only : SearchesTheLowestOnly (λ rank i j. rank i < rank j) f → BreaksOn three-rows nine f
-  unfolding all
+  unfolding all words
   lowest-only w a =
       let e = at-rows a in
-      omega (
-        arith,
-        w three-rows nine (words three-rows refl) (words nine refl) (number-of e) 0 1 (omega arith) (omega arith)
-            (omega (arith, number-at e 0))
-            (omega (arith, number-at e 3)),
-        number-at e 0,
-        number-at e 3,
-      )
+      let r₀ = number-at e 0 in
+      let r₁ = number-at e 3 in
+      omega (arith, on w three-rows nine refl (number-of e) 0 1 (omega arith) (omega arith) (omega arith) (omega arith))
 
   -- (1,1,10) (1,5,10) (1,12,12): (1,1,1) (3,1,3) (2,1,2)
   lowest-only-down : SearchesTheLowestOnly (λ rank i j. rank j < rank i) f → BreaksOn urgent-first nine f
-  unfolding all further
+  unfolding all words further
   lowest-only-down w a =
       let e = plan-unique urgent-first nine _ _ a (further-figures .0 nine refl) in
-      omega (
-        arith,
-        w urgent-first nine (words urgent-first refl) (words nine refl) (number-of e) 0 2 (omega arith) (omega arith)
-            (omega (arith, number-at e 0))
-            (omega (arith, number-at e 6)),
-        number-at e 0,
-        number-at e 6,
-      )
+      let r₀ = number-at e 0 in
+      let r₂ = number-at e 6 in
+      omega (arith, on w urgent-first nine refl (number-of e) 0 2 (omega arith) (omega arith) (omega arith) (omega arith))
 
   by-deadline : RanksByDeadline f → BreaksOn three-rows nine f
-  unfolding all
+  unfolding all words
   by-deadline w a =
       let e = at-rows a in
-      omega (
-        arith,
-        w three-rows nine (words three-rows refl) (words nine refl) (number-of e) 0 1 (omega arith) (omega arith)
-            (omega arith),
-        number-at e 0,
-        number-at e 3,
-      )
+      let r₀ = number-at e 0 in
+      let r₁ = number-at e 3 in
+      omega (arith, on w three-rows nine refl (number-of e) 0 1 (omega arith) (omega arith) (omega arith))
 
   -- (1,3,3) three times is planned, though each third is rounded up
   rounded-up : (whole : ℕ) → (whole % 3 ≡ 0 → ⊥) → RefusesByUtilisation up whole f → BreaksOn three-thirds nine f
-  unfolding all further table-test up sum
+  unfolding all words further table-test up sum
   rounded-up whole uneven w a =
       let e = plan-unique three-thirds nine _ _ a (further-figures .1 .0 nine refl) in
-      let four = w three-thirds nine (words three-thirds refl) (words nine refl) refl (table-sound three-thirds refl)
-      (omega arith) .1 (omega arith) in
+      let four = on w three-thirds nine refl refl (sound three-thirds refl) (omega arith) .1 (omega arith) in
       omega (arith, four, number-of e)
 
   -- (500000,1000000,1000000) (500001,1000000,1000000) is refused with 4, though the halves are rounded down
   rounded-down : (whole : ℕ) → whole < 1000000 → RefusesByUtilisation _/_ whole f → BreaksOn one-tick-over six f
-  unfolding all further table-test sum
+  unfolding all words further table-test sum
   rounded-down whole coarse w a =
       let e = plan-unique one-tick-over six _ _ a (further-figures .1 .1 .0 six (omega arith)) in
-      let over = w one-tick-over six (words one-tick-over refl) (words six refl) refl (table-sound one-tick-over refl)
-      (omega arith) .0 (number-of e) in
-      omega (arith, over)
+      omega (arith, on w one-tick-over six refl refl (sound one-tick-over refl) (omega arith) .0 (number-of e))
 
 pub all-refuted : AllRefuted
 all-refuted =

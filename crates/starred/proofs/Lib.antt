@@ -1,4 +1,5 @@
 -- The proofs of the crate `starred`.
+pub mod Tests
 pub mod Seen
 pub mod Trials
 pub mod Clears
