@@ -6,15 +6,17 @@ use mathlib.Core.List.{List, [], _∷_}
 use native.Mathlib.Omega.{arith}
 use Rattle.counting.proofs.Cases.{by-le}
 use Rattle.tables.specs.Table.{Sound, tableOf}
-use Rattle.tables.specs.Plan.{WellFormed, planOf}
+use Rattle.tables.specs.Plan.{Plan, WellFormed, planOf}
 use Rattle.tables.specs.Jobs.{Lawful, jobsOf}
 use Rattle.tables.specs.Refusal.{Clear, Result}
 use Rattle.tables.specs.Checks.{shape, range, plan-form, jobs-shape, job-rules, room}
 use Rattle.tables.proofs.Answered.{granted}
 use Rattle.tables.proofs.Clear.{sound-of-clear, plan-of-clear, jobs-of-clear}
 use Rattle.test.specs.Test.{BusyWithin}
+use Rattle.test.proofs.Load.{sound-positive}
 use Rattle.test.specs.Answers.{no-busy, TimesAnswer, TimesGiven, VerdictAnswer, VerdictGiven}
-use Rattle.choice.specs.Answers.{planned-width, no-plan, PlanAnswer, PlanGiven}
+use Rattle.choice.specs.Answers.{planned-width, plannedOf, no-plan, PlanAnswer, PlanGiven}
+use Rattle.choice.proofs.Complete.{chosen-well-formed}
 use Rattle.kernel.specs.Answers.{PlayAnswer, PlayGiven}
 
 -- past the checks of the table
@@ -26,51 +28,42 @@ pub record TableTaken (xs : List ℕ) : Type 0 where
 taken : (xs : List ℕ) → Clear (shape xs) → Clear (range xs) → TableTaken xs
 taken xs s r = record { shaped = s; ranged = r; sound = sound-of-clear xs s r }
 
-pub record PlanGave (xs out : List ℕ) (r : Result) : Type 0 where
+-- past the other checks of plan, times or verdict: p is the plan that was written or lent
+pub record Gave (xs : List ℕ) (p : Plan) (Given : ℕ → List ℕ → Type 0) (r : Result) : Type 0 where
   pub table : TableTaken xs
+  pub plan : WellFormed (tableOf xs) p
   pub busy : Clear (no-busy (tableOf xs))
-  pub given : PlanGiven (tableOf xs) out (r .value) (r .out)
+  pub given : Given (r .value) (r .out)
+
+abbrev pub PlanGave : List ℕ → List ℕ → Result → Type 0
+PlanGave xs out r = Gave xs (plannedOf (r .out)) (PlanGiven (tableOf xs) out) r
 
 pub plan-gave : (xs out : List ℕ) (r : Result) → PlanAnswer xs out r → r .number ≡ 0 → PlanGave xs out r
 plan-gave xs out r a zero =
     let tb = tableOf xs in
     let g = granted (shape xs ∷ range xs ∷ room (planned-width * tb .n) out ∷ no-busy tb ∷ no-plan tb ∷ [])
     (PlanGiven tb out) out r refl zero a in
-    record { table = taken xs (g .0 .0) (g .0 .1 .0); busy = g .0 .1 .1 .1 .0; given = g .1 .given }
+    let t = taken xs (g .0 .0) (g .0 .1 .0) in
+    let wf = chosen-well-formed tb (sound-positive tb (t .sound)) (plannedOf (r .out)) (g .1 .given .chosen) in
+    record { table = t; plan = wf; busy = g .0 .1 .1 .1 .0; given = g .1 .given }
 
-pub record TimesGave (xs ps out : List ℕ) (r : Result) : Type 0 where
-  pub table : TableTaken xs
-  pub plan : WellFormed (tableOf xs) (planOf ps)
-  pub given : TimesGiven (tableOf xs) (planOf ps) out (r .value) (r .out)
-
-pub times-gave : (xs ps out : List ℕ) (r : Result) → TimesAnswer xs ps out r → r .number ≡ 0 → TimesGave xs ps out r
+pub times-gave : (xs ps out : List ℕ) (r : Result) → TimesAnswer xs ps out r → r .number ≡ 0 →
+    Gave xs (planOf ps) (TimesGiven (tableOf xs) (planOf ps) out) r
 times-gave xs ps out r a zero =
     let tb = tableOf xs in
     let g = granted (shape xs ∷ range xs ∷ plan-form tb ps ∷ room (tb .n) out ∷ no-busy tb ∷ [])
     (TimesGiven tb (planOf ps) out) out r refl zero a in
-    record {
-      table = taken xs (g .0 .0) (g .0 .1 .0);
-      plan = plan-of-clear tb ps (g .0 .1 .1 .0) .1;
-      given = g .1 .given;
-    }
+    let wf = plan-of-clear tb ps (g .0 .1 .1 .0) .1 in
+    record { table = taken xs (g .0 .0) (g .0 .1 .0); plan = wf; busy = g .0 .1 .1 .1 .1 .0; given = g .1 .given }
 
-pub record VerdictGave (xs ps : List ℕ) (r : Result) : Type 0 where
-  pub table : TableTaken xs
-  pub plan : WellFormed (tableOf xs) (planOf ps)
-  pub busy : Clear (no-busy (tableOf xs))
-  pub given : VerdictGiven (tableOf xs) (planOf ps) (r .value) (r .out)
-
-pub verdict-gave : (xs ps : List ℕ) (r : Result) → VerdictAnswer xs ps r → r .number ≡ 0 → VerdictGave xs ps r
+pub verdict-gave : (xs ps : List ℕ) (r : Result) → VerdictAnswer xs ps r → r .number ≡ 0 →
+    Gave xs (planOf ps) (VerdictGiven (tableOf xs) (planOf ps)) r
 verdict-gave xs ps r a zero =
     let tb = tableOf xs in
     let g = granted (shape xs ∷ range xs ∷ plan-form tb ps ∷ no-busy tb ∷ []) (VerdictGiven tb (planOf ps)) [] r refl
     zero a in
-    record {
-      table = taken xs (g .0 .0) (g .0 .1 .0);
-      plan = plan-of-clear tb ps (g .0 .1 .1 .0) .1;
-      busy = g .0 .1 .1 .1 .0;
-      given = g .1 .given;
-    }
+    let wf = plan-of-clear tb ps (g .0 .1 .1 .0) .1 in
+    record { table = taken xs (g .0 .0) (g .0 .1 .0); plan = wf; busy = g .0 .1 .1 .1 .0; given = g .1 .given }
 
 pub record PlayGave (xs ps js out : List ℕ) (r : Result) : Type 0 where
   pub table : TableTaken xs
@@ -83,8 +76,7 @@ pub play-gave : (xs ps js out : List ℕ) (r : Result) → PlayAnswer xs ps js o
 play-gave xs ps js out r a zero =
     let tb = tableOf xs in
     let J = jobsOf js in
-    let g =
-    granted (shape xs ∷ range xs ∷ plan-form tb ps ∷ jobs-shape js ∷ job-rules tb js ∷ room (J .N) out ∷ [])
+    let g = granted (shape xs ∷ range xs ∷ plan-form tb ps ∷ jobs-shape js ∷ job-rules tb js ∷ room (J .N) out ∷ [])
     (PlayGiven tb (planOf ps) J out) out r refl zero a in
     let c = g .0 in
     record {

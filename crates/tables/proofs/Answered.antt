@@ -3,7 +3,7 @@
 use Prim.Native.Nat.{ℕ, _+_, _-_, _≤_}
 use mathlib.Core.Path.{_≡_, sym, ap, _∙_}
 use mathlib.Core.Bool.{Bool, true, _&&_}
-use mathlib.Core.Logic.{⊎-elim}
+use mathlib.Core.Logic.{_⊎_, ⊎-elim}
 use mathlib.Core.List.{List, [], _∷_}
 use native.Mathlib.Omega.{arith}
 use lib.Dec.{leb}
@@ -79,6 +79,10 @@ granted (c ∷ cs) Given out r some zero a =
     (λ x. absurd (omega (arith, x .number, leb-true 1 (c .number) (and-left first (numbered cs) some))))
     (λ x. let g = granted cs Given out r (and-right first (numbered cs) some) zero (x .1) in ((x .0, g .0), g .1))
     a
+
+-- a check that does not hit leaves the answer to those after it
+pub beyond : {c : Check} {out : List ℕ} {r : Result} {A : Type 0} → Clear c → Refused c out r ⊎ (Clear c × A) → A
+beyond {r = r} clear = ⊎-elim (λ x. absurd (clear (r .place) (x .place))) (λ x. x .1)
 
 -- two lists whose remainders from n on are the same agree from n on
 pub same-rest : (n : ℕ) (l m : List ℕ) → drop n l ≡ drop n m → (i : ℕ) → n ≤ i → getD l i 0 ≡ getD m i 0
