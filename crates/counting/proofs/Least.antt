@@ -2,12 +2,12 @@
 -- compare, iterate.
 use Prim.Native.Nat.{ℕ, zero, suc, _-_, _≤_, _<_}
 use mathlib.Core.Path.{_≡_, sym}
-use mathlib.Core.Bool.{Bool, true, false}
+use mathlib.Core.Bool.{Bool, true}
 use native.Mathlib.Omega.{arith}
 use lib.Dec.{eqb}
 use borrow.Author.Tests.{eqb-true, eq-eqb}
 use Rattle.counting.specs.Least.{Least}
-use Rattle.counting.proofs.Cases.{by-eq, by-le}
+use Rattle.counting.proofs.Cases.{by-eq, by-le, not-both}
 use Rattle.counting.proofs.Search.{first, first-ge, first-before, first-found}
 
 pub least-unique : {E : ℕ → Type 0} {lo a b : ℕ} → Least E lo a → Least E lo b → a ≡ b
@@ -30,14 +30,10 @@ least-of P sound complete lo u h e =
         holds = sound (first P k lo) (r .0);
         least =
             λ v a g. by-le (first P k lo) v (λ q. q)
-            (λ q. absurd (let z : _≡_ {A = ℕ} 0 1 = ne (P v) (first-before P k lo v a q) (complete v g) in
-            omega arith));
+            (λ q. not-both (P v) (first-before P k lo v a q) (complete v g));
       },
       r .1,
     )
-  where
-    ne : (b : Bool) → b ≡ false → b ≡ true → _≡_ {A = ℕ} 0 1
-    ne b f t = cc
 
 -- it never falls
 abbrev pub Mono : (ℕ → ℕ) → Type 0

@@ -10,49 +10,40 @@ unfoldable pub first : (ℕ → Bool) → ℕ → ℕ → ℕ
 first P zero t = t
 first P (suc k) t = elim (P t) [ true ↦ t | false ↦ first P k (suc t) ]
 
-first-zero : (P : ℕ → Bool) (t : ℕ) → first P zero t ≡ t
-unfolding first
-first-zero P t = refl
-
-first-hit : (P : ℕ → Bool) (k t : ℕ) → P t ≡ true → first P (suc k) t ≡ t
-unfolding first
-first-hit P k t e = rw (e, first)
-
-first-miss : (P : ℕ → Bool) (k t : ℕ) → P t ≡ false → first P (suc k) t ≡ first P k (suc t)
-unfolding first
-first-miss P k t e = rw (e, first)
-
 pub first-ge : (P : ℕ → Bool) (k t : ℕ) → t ≤ first P k t
-first-ge P zero t = rw first-zero (omega arith)
+unfolding first
+first-ge P zero t = omega arith
 first-ge P (suc k) t =
-    by-bool (P t) (λ e. rw (first-hit P k t e) (omega arith))
-    (λ e. rw (first-miss P k t e) (omega (arith, first-ge P k (suc t))))
+    by-bool (P t) (λ e. rw (e, first) (omega arith)) (λ e. rw (e, first) (omega (arith, first-ge P k (suc t))))
 
 -- below the first the test fails
 pub first-before : (P : ℕ → Bool) (k t u : ℕ) → t ≤ u → u < first P k t → P u ≡ false
-first-before P zero t u a b = absurd (omega (arith, first-zero P t))
+unfolding first
+first-before P zero t u a b = absurd (omega arith)
 first-before P (suc k) t u a b =
     by-bool (P t)
-    (λ e. absurd (omega (arith, first-hit P k t e)))
-    (λ e. by-eq t u (λ q. rw (← q) e) (λ q. first-before P k (suc t) u (omega arith) (rw (first-miss P k t e) at b)))
+    (λ e. absurd (omega (arith, rw (e, first) at b)))
+    (λ e. by-eq t u (λ q. rw (← q) e) (λ q. first-before P k (suc t) u (omega arith) (rw (e, first) at b)))
 
 -- what passes within the bound is found, or something before it
 pub first-found : (P : ℕ → Bool) (k t u : ℕ) → t ≤ u → u < t + k → P u ≡ true →
     (P (first P k t) ≡ true) × (first P k t ≤ u)
+unfolding first
 first-found P zero t u a b e = absurd (omega arith)
 first-found P (suc k) t u a b e =
     by-bool (P t)
-    (λ h. rw (first-hit P k t h) (h, a))
-    (λ h. rw (first-miss P k t h)
+    (λ h. rw (h, first) (h, a))
+    (λ h. rw (h, first)
     (by-eq t u (λ q. not-both (P t) h (ap P q ∙ e)) (λ q. first-found P k (suc t) u (omega arith) (omega arith) e)))
 
 -- where it ends within the bound the test passes
 pub first-within : (P : ℕ → Bool) (k t : ℕ) → first P k t < t + k → P (first P k t) ≡ true
-first-within P zero t h = absurd (omega (arith, first-zero P t))
+unfolding first
+first-within P zero t h = absurd (omega arith)
 first-within P (suc k) t h =
     by-bool (P t)
-    (λ e. rw (first-hit P k t e) e)
-    (λ e. rw (first-miss P k t e) (first-within P k (suc t) (omega (arith, first-miss P k t e))))
+    (λ e. rw (e, first) e)
+    (λ e. rw (e, first) (first-within P k (suc t) (omega (arith, rw (e, first) at h))))
 
 -- the test passes at 0, .., n - 1
 unfoldable pub all : (ℕ → Bool) → ℕ → Bool
@@ -66,11 +57,6 @@ all-at P (suc n) e j h =
     by-bool (all P n)
     (λ a. let e′ : P n ≡ true = rw (a, all) at e in by-eq j n (λ q. rw q e′) (λ q. all-at P n a j (omega arith)))
     (λ a. let z : false ≡ true = rw (a, all) at e in cc)
-
-pub all-of : (P : ℕ → Bool) (n : ℕ) → ((j : ℕ) → j < n → P j ≡ true) → all P n ≡ true
-unfolding all
-all-of P zero h = refl
-all-of P (suc n) h = rw (all-of P n (λ j l. h j (omega arith)), all) (h n (omega arith))
 
 pub all-not : (P : ℕ → Bool) (n : ℕ) → all P n ≡ false → (j : ℕ) × (j < n) × (P j ≡ false)
 unfolding all

@@ -1,7 +1,7 @@
 -- Laws of sums, largest values and counts over the numbers below n.
 use Prim.Native.Nat.{ℕ, zero, suc, _+_, _-_, _*_, _≤_, _<_}
 use mathlib.Core.Path.{_≡_, refl, ap, sym, _∙_, subst, fun-ext}
-use mathlib.Core.Bool.{Bool, true, false, _&&_, not}
+use mathlib.Core.Bool.{Bool, true, false, not, and-comm}
 use native.Mathlib.Omega.{arith}
 use native.Mathlib.Nat.{add-zero, add-suc}
 use lib.Dec.{eqb, ltb}
@@ -26,13 +26,7 @@ without-elim U y j e k =
     (λ q. k q (sym (without-other U y j q) ∙ e))
 
 pub without-comm : (U : ℕ → Bool) (x y : ℕ) → without (without U x) y ≡ without (without U y) x
-without-comm U x y = fun-ext (λ j. by-bool (U j) (λ e. rw e (swap (eqb j x) (eqb j y))) (λ e. rw e))
-  where
-    swap : (a b : Bool) → (not a && not b) ≡ (not b && not a)
-    swap true true = refl
-    swap true false = refl
-    swap false true = refl
-    swap false false = refl
+without-comm U x y = fun-ext (λ j. by-bool (U j) (λ e. rw e (and-comm (not (eqb j x)) (not (eqb j y)))) (λ e. rw e))
 
 pub sum-le : (f g : ℕ → ℕ) (n : ℕ) → ((j : ℕ) → j < n → f j ≤ g j) → sum f n ≤ sum g n
 unfolding sum
@@ -40,9 +34,8 @@ sum-le f g zero h = omega arith
 sum-le f g (suc n) h = omega (arith, sum-le f g n (λ j l. h j (omega arith)), h n (omega arith))
 
 pub sum-ext : (f g : ℕ → ℕ) (n : ℕ) → ((j : ℕ) → j < n → f j ≡ g j) → sum f n ≡ sum g n
-unfolding sum
-sum-ext f g zero h = refl
-sum-ext f g (suc n) h = omega (arith, sum-ext f g n (λ j l. h j (omega arith)), h n (omega arith))
+sum-ext f g n h =
+    omega (arith, sum-le f g n (λ j l. omega (arith, h j l)), sum-le g f n (λ j l. omega (arith, h j l)))
 
 pub given-yes : (b : Bool) (x : ℕ) → b ≡ true → given b x ≡ x
 given-yes b x e = rw e
@@ -95,15 +88,6 @@ largest-cases f (suc n) a b =
     (λ h. b n (omega arith) (omega arith))
     (λ h. largest-cases f n (λ e. a (omega arith)) (λ j l e. b j (omega arith) (omega arith)))
 
--- a positive count has something to count
-pub count-some : (P : ℕ → Bool) (n : ℕ) → 0 < count P n → (j : ℕ) × (j < n) × (P j ≡ true)
-unfolding count sum
-count-some P zero h = absurd (omega arith)
-count-some P (suc n) h =
-    by-bool (P n)
-    (λ e. (n, omega arith, e))
-    (λ e. let r = count-some P n (omega (arith, given-no (P n) 1 e)) in (r .0, omega arith, r .2))
-
 pub count-zero : (P : ℕ → Bool) (n : ℕ) → count P n ≡ 0 → (j : ℕ) → j < n → P j ≡ false
 unfolding count sum
 count-zero P zero h j l = absurd (omega arith)
@@ -148,9 +132,6 @@ sum-delta x y (suc n) l =
     ))
     (λ q. omega (arith, given-no (eqb y n) x (ne-eqb y n q), sum-delta x y n (omega arith)))
 
-pub sum-none : (x y n : ℕ) → n ≤ y → sum (λ j. given (eqb y j) x) n ≡ 0
-sum-none x y n l = sum-zero (λ j. given (eqb y j) x) n (λ j g. given-no (eqb y j) x (ne-eqb y j (omega arith)))
-
 pub sum-lt : (f g : ℕ → ℕ) (n k : ℕ) → ((j : ℕ) → j < n → f j ≤ g j) → k < n → f k < g k → sum f n < sum g n
 unfolding sum
 sum-lt f g zero k h l a = absurd (omega arith)
@@ -172,41 +153,34 @@ sum-swap r h n (suc m) l =
       sum-add (λ j. sum (λ k. given (eqb (r k) j) (h k)) m) (λ j. given (eqb (r m) j) (h m)) n,
     )
 
-pub sum-front : (f : ℕ → ℕ) (m n : ℕ) → m ≤ n → sum (λ k. given (ltb k m) (f k)) n ≡ sum f m
-unfolding sum
-sum-front f m zero l = let q : m ≡ 0 = omega arith in rw q
-sum-front f m (suc n) l =
-    by-le m n
-    (λ h. omega (arith, sum-front f m n h, given-no (ltb n m) (f n) (le-ltb n m h)))
-    (λ h.
-    let q : m ≡ suc n = omega arith in
-    rw q
-    (omega (
-      arith,
-      given-yes (ltb n (suc n)) (f n) (lt-ltb n (suc n) (omega arith)),
-      sum-ext (λ k. given (ltb k (suc n)) (f k)) f n
-          (λ k g. given-yes (ltb k (suc n)) (f k) (lt-ltb k (suc n) (omega arith))),
-    )))
-
-pub sum-ge : (f : ℕ → ℕ) (n j : ℕ) → j < n → f j ≤ sum f n
-unfolding sum
-sum-ge f zero j l = absurd (omega arith)
-sum-ge f (suc n) j l = by-eq j n (λ q. rw q (omega arith)) (λ q. omega (arith, sum-ge f n j (omega arith)))
-
 pub sum-shift : (f : ℕ → ℕ) (a b : ℕ) → sum f (a + b) ≡ sum f a + sum (λ v. f (a + v)) b
 unfolding sum
 sum-shift f a zero = rw (add-zero a) (omega arith)
 sum-shift f a (suc b) = rw (add-suc a b) (omega (arith, sum-shift f a b))
 
+pub sum-more : (f : ℕ → ℕ) (a b : ℕ) → a ≤ b → sum f a ≤ sum f b
+sum-more f a b h = let q : a + (b - a) ≡ b = omega arith in omega (arith, sum-shift f a (b - a), ap (sum f) q)
+
+pub sum-ge : (f : ℕ → ℕ) (n j : ℕ) → j < n → f j ≤ sum f n
+unfolding sum
+sum-ge f n j l = omega (arith, sum-more f (suc j) n l)
+
+pub sum-front : (f : ℕ → ℕ) (m n : ℕ) → m ≤ n → sum (λ k. given (ltb k m) (f k)) n ≡ sum f m
+sum-front f m n l =
+    let q : m + (n - m) ≡ n = omega arith in
+    let g : ℕ → ℕ = λ k. given (ltb k m) (f k) in
+    omega (
+      arith,
+      ap (sum g) q,
+      sum-shift g m (n - m),
+      sum-ext g f m (λ k h. given-yes (ltb k m) (f k) (lt-ltb k m h)),
+      sum-zero (λ v. g (m + v)) (n - m) (λ v _. given-no (ltb (m + v) m) (f (m + v)) (le-ltb (m + v) m (omega arith))),
+    )
+
 pub sum-fubini : (h : ℕ → ℕ → ℕ) (m n : ℕ) → sum (λ u. sum (h u) n) m ≡ sum (λ r. sum (λ u. h u r) m) n
 unfolding sum
 sum-fubini h zero n = sym (sum-zero (λ r. sum (λ u. h u r) zero) n (λ _ _. refl))
 sum-fubini h (suc m) n = omega (arith, sum-fubini h m n, sum-add (λ r. sum (λ u. h u r) m) (h m) n)
-
-pub sum-more : (f : ℕ → ℕ) (a b : ℕ) → a ≤ b → sum f a ≤ sum f b
-sum-more f a b h =
-    let q : a + (b - a) ≡ b = omega arith in
-    omega (arith, sum-shift f a (b - a), ap (sum f) q)
 
 -- what at most one number below n is counted for is counted once at most
 pub sum-once : (P : ℕ → Bool) (b n : ℕ) → ((k l : ℕ) → k < n → l < n → P k ≡ true → P l ≡ true → k ≡ l) →
@@ -236,9 +210,4 @@ count-none P n h = sum-zero (λ j. given (P j) 1) n (λ j l. given-no (P j) 1 (h
 
 pub count-le : (P : ℕ → Bool) (n : ℕ) → count P n ≤ n
 unfolding count
-count-le P n =
-    omega (
-      arith,
-      sum-le (λ j. given (P j) 1) (λ j. given true 1) n (λ j l. given-sub (P j) true 1 (λ _. refl)),
-      count-all n,
-    )
+count-le P n = omega (arith, sum-le _ (λ j. given true 1) n (λ j l. given-sub (P j) true 1 (λ _. refl)), count-all n)

@@ -39,7 +39,4 @@ up-pos t p h = lt-up t 0 p (omega arith)
 -- floor plus one is rounding up one tick later
 pub up-suc : {d : ℕ} (t : ℕ) → 0 < d → up (suc t) d ≡ t / d + 1
 unfolding up
-up-suc {d} t p = ap (λ x. x / d) e ∙ add-div-right t p
-  where
-    e : suc t + (d - 1) ≡ t + d
-    e = omega arith
+up-suc {d} t p = let e : suc t + (d - 1) ≡ t + d = omega arith in ap (λ x. x / d) e ∙ add-div-right t p
