@@ -1,13 +1,13 @@
 -- The laws of marks: the first mark by trailing zeros, how many there are, one less, one more, all of n. Each by
 -- induction on the digits.
-use Prim.Native.Nat.{ℕ, zero, suc, _+_, _-_, _*_, _/_, _%_, _^_, _≤_, _<_, zero-le, suc-le-suc}
-use mathlib.Core.Path.{_≡_, refl, sym, ap, _∙_, subst, fun-ext}
+use Prim.Native.Nat.{ℕ, zero, suc, _+_, _-_, _*_, _/_, _%_, _^_, _≤_, _<_, zero-le}
+use mathlib.Core.Path.{_≡_, refl, sym, ap, _∙_, fun-ext}
 use mathlib.Core.Bool.{Bool, true, false, or-false, or-true}
 use native.Mathlib.Omega.{arith}
 use native.Mathlib.Nat.{pow-suc, le-of-suc-le-suc, not-suc-le-zero, one-mul}
 use lib.Dec.{eqb, ltb, lit<}
 use lib.Pow.{pow-pos, pow-mono, ones-split, high, shl-exact}
-use lib.Count.{ones, trailingZeros, under, ones-step}
+use lib.Count.{ones, trailingZeros, ones-step}
 use borrow.Author.Tests.{eqb-true, eqb-false, eq-eqb, ne-eqb, lt-ltb, le-ltb}
 use Rattle.counting.specs.Sum.{given, sum, count}
 use Rattle.counting.proofs.Cases.{by-bool, by-eq, by-le, not-both}
@@ -20,51 +20,22 @@ digit : {P : Type 0} (s : ℕ) → (s % 2 ≡ 0 → P) → (s % 2 ≡ 1 → P) �
 digit s a b = by-eq (s % 2) 0 a (λ h. b (omega arith))
 
 -- the trailing zeros of a number that is not 0 lead to its lowest mark
-lowest-in : (k s : ℕ) → 0 < s → s < 2 ^ k → trailingZeros k s < k
-unfolding trailingZeros
-lowest-in zero s p h = absurd (let q : s < 1 = h in omega arith)
-lowest-in (suc k) s p h =
-    let w = pow-suc 2 k in
-    digit s
-    (λ e. subst (λ (x : ℕ). under x (trailingZeros k (s / 2)) < suc k) (sym e)
-    (suc-le-suc (lowest-in k (s / 2) (omega arith) (omega arith))))
-    (λ e. subst (λ (x : ℕ). under x (trailingZeros k (s / 2)) < suc k) (sym e) (omega arith))
-
 lowest-marked : (k s : ℕ) → 0 < s → s < 2 ^ k → marked s (trailingZeros k s) ≡ true
 unfolding trailingZeros marked
 lowest-marked zero s p h = absurd (let q : s < 1 = h in omega arith)
 lowest-marked (suc k) s p h =
     let w = pow-suc 2 k in
-    digit s
-    (λ e. subst (λ (x : ℕ). marked s (under x (trailingZeros k (s / 2))) ≡ true) (sym e)
-    (lowest-marked k (s / 2) (omega arith) (omega arith)))
-    (λ e. subst (λ (x : ℕ). marked s (under x (trailingZeros k (s / 2))) ≡ true) (sym e) (eq-eqb (s % 2) 1 e))
+    digit s (λ e. rw e (lowest-marked k (s / 2) (omega arith) (omega arith))) (λ e. rw e (eq-eqb (s % 2) 1 e))
 
 none-lower : (k s j : ℕ) → j < trailingZeros k s → marked s j ≡ false
 unfolding trailingZeros marked
 none-lower zero s j h = absurd (not-suc-le-zero h)
 none-lower (suc k) s zero h =
-    digit s
-    (λ e. ne-eqb (s % 2) 1 (λ o. omega arith))
-    (λ e. absurd (not-suc-le-zero (subst (λ (x : ℕ). zero < under x (trailingZeros k (s / 2))) e h)))
+    digit s (λ e. ne-eqb (s % 2) 1 (λ o. omega arith)) (λ e. absurd (not-suc-le-zero (rw e at h)))
 none-lower (suc k) s (suc j) h =
     digit s
-    (λ e. none-lower k (s / 2) j (le-of-suc-le-suc (subst (λ (x : ℕ). suc j < under x (trailingZeros k (s / 2))) e h)))
-    (λ e. absurd (not-suc-le-zero (subst (λ (x : ℕ). suc j < under x (trailingZeros k (s / 2))) e h)))
-
-pub next-by-zeros : (s : ℕ) → 0 < s → s < 2 ^ 32 → Next s (trailingZeros 32 s)
-next-by-zeros s p h =
-    record {
-      inside = lowest-in 32 s p h;
-      first =
-          record {
-            low = zero-le;
-            holds = lowest-marked 32 s p h;
-            least =
-                λ j _ m.
-                by-le (trailingZeros 32 s) j (λ l. l) (λ l. not-both (marked s j) (none-lower 32 s j l) m);
-          };
-    }
+    (λ e. none-lower k (s / 2) j (le-of-suc-le-suc (rw e at h)))
+    (λ e. absurd (not-suc-le-zero (rw e at h)))
 
 -- a mark i is worth 2 ^ i
 pub worth : (i s : ℕ) → marked s i ≡ true → 2 ^ i ≤ s
@@ -76,10 +47,21 @@ worth (suc i) s m = let w = pow-suc 2 i in let q = worth i (s / 2) m in omega ar
 pub inside : (k s i : ℕ) → s < 2 ^ k → marked s i ≡ true → i < k
 inside k s i h m = by-le k i (λ l. absurd (omega (arith, worth i s m, pow-mono l))) (λ l. l)
 
+pub next-by-zeros : (s : ℕ) → 0 < s → s < 2 ^ 32 → Next s (trailingZeros 32 s)
+next-by-zeros s p h =
+    let i = trailingZeros 32 s in
+    let m = lowest-marked 32 s p h in
+    let low : (j : ℕ) → 0 ≤ j → marked s j ≡ true → i ≤ j =
+    λ j _ g. by-le i j (λ l. l) (λ l. not-both (marked s j) (none-lower 32 s j l) g) in
+    record { inside = inside 32 s i h m; first = record { low = zero-le; holds = m; least = low } }
+
 pub none : (j : ℕ) → marked 0 j ≡ false
 unfolding marked
 none zero = refl
 none (suc j) = none j
+
+lowest-one : (s : ℕ) → given (eqb (s % 2) 1) 1 ≡ s % 2
+lowest-one s = digit s (λ e. rw e) (λ e. rw e)
 
 -- a number is the set of its marks
 pub same-marks : (k s t : ℕ) → s < 2 ^ k → t < 2 ^ k → ((j : ℕ) → marked s j ≡ marked t j) → s ≡ t
@@ -88,17 +70,7 @@ same-marks zero s t a b h = let p : s < 1 = a in let q : t < 1 = b in omega arit
 same-marks (suc k) s t a b h =
     let w = pow-suc 2 k in
     let r = same-marks k (s / 2) (t / 2) (omega arith) (omega arith) (λ j. h (suc j)) in
-    let z : eqb (s % 2) 1 ≡ eqb (t % 2) 1 = h zero in
-    let d : s % 2 ≡ t % 2 =
-    digit s
-    (λ e.
-    digit t
-    (λ f. omega arith)
-    (λ f. not-both (eqb (s % 2) 1) (ne-eqb (s % 2) 1 (λ o. omega arith)) (z ∙ eq-eqb (t % 2) 1 f)))
-    (λ e.
-    digit t
-    (λ f. not-both (eqb (t % 2) 1) (ne-eqb (t % 2) 1 (λ o. omega arith)) (sym z ∙ eq-eqb (s % 2) 1 e))
-    (λ f. omega arith)) in
+    let d : s % 2 ≡ t % 2 = sym (lowest-one s) ∙ ap (λ b. given b 1) (h zero) ∙ lowest-one t in
     omega arith
 
 -- a sum taken apart at its first number
@@ -107,12 +79,6 @@ unfolding sum
 sum-head f zero = omega arith
 sum-head f (suc n) = omega (arith, sum-head f n)
 
-lowest-one : (s : ℕ) → given (eqb (s % 2) 1) 1 ≡ s % 2
-lowest-one s =
-    digit s
-    (λ e. rw e)
-    (λ e. rw e)
-
 -- the count of ones is the number of marks
 pub ones-count : (k s : ℕ) → s < 2 ^ k → ones s ≡ count (marked s) k
 unfolding count sum ones marked
@@ -120,51 +86,10 @@ ones-count zero s h = ap ones (let q : s ≡ 0 = let r : s < 1 = h in omega arit
 ones-count (suc k) s h =
     let w = pow-suc 2 k in
     let r = ones-count k (s / 2) (omega arith) in
-    let d = sum-head (λ j. given (marked s j) 1) k in
-    omega (arith, ones-step s, lowest-one s)
+    omega (arith, sum-head (λ j. given (marked s j) 1) k, ones-step s, lowest-one s)
 
-module _ (i s : ℕ) (le : 2 ^ suc i ≤ s) where
-  half-less : (s - 2 ^ suc i) / 2 ≡ s / 2 - 2 ^ i
-  half-less = let w = pow-suc 2 i in omega arith
-
-  digit-less : (s - 2 ^ suc i) % 2 ≡ s % 2
-  digit-less = let w = pow-suc 2 i in omega arith
-
-gone-less : (i s : ℕ) → marked s i ≡ true → marked (s - 2 ^ i) i ≡ false
-unfolding marked
-gone-less zero s m =
-    let e = eqb-true (s % 2) 1 m in
-    ne-eqb ((s - 1) % 2) 1 (λ o. omega arith)
-gone-less (suc i) s m = rw (half-less i s (worth (suc i) s m)) (gone-less i (s / 2) m)
-
-kept-less : (i s j : ℕ) → marked s i ≡ true → ¬ (j ≡ i) → marked (s - 2 ^ i) j ≡ marked s j
-unfolding marked
-kept-less zero s zero m ne = absurd (ne refl)
-kept-less zero s (suc j) m ne =
-    let e = eqb-true (s % 2) 1 m in
-    ap (λ (x : ℕ). marked x j) (let q : (s - 1) / 2 ≡ s / 2 = omega arith in q)
-kept-less (suc i) s zero m ne = ap (λ (x : ℕ). eqb x 1) (digit-less i s (worth (suc i) s m))
-kept-less (suc i) s (suc j) m ne =
-    rw (half-less i s (worth (suc i) s m)) (kept-less i (s / 2) j m (λ e. ne (ap suc e)))
-
-pub less-by-worth : (i s : ℕ) → marked s i ≡ true → Less s i (s - 2 ^ i)
-less-by-worth i s m =
-    record {
-      marks =
-          fun-ext
-          (λ j.
-          by-eq j i
-          (λ e. rw e (gone-less i s m ∙ sym (without-same (marked s) i)))
-          (λ e. kept-less i s j m e ∙ sym (without-other (marked s) i j e)));
-      smaller = let p = pow-pos i in let w = worth i s m in omega arith;
-    }
-
-module _ (i s : ℕ) where
-  half-more : (s + 2 ^ suc i) / 2 ≡ s / 2 + 2 ^ i
-  half-more = let w = pow-suc 2 i in omega arith
-
-  digit-more : (s + 2 ^ suc i) % 2 ≡ s % 2
-  digit-more = let w = pow-suc 2 i in omega arith
+half-more : (i s : ℕ) → (s + 2 ^ suc i) / 2 ≡ s / 2 + 2 ^ i
+half-more i s = let w = pow-suc 2 i in omega arith
 
 unmarked-digit : (s : ℕ) → eqb (s % 2) 1 ≡ false → s % 2 ≡ 0
 unmarked-digit s m = digit s (λ e. e) (λ e. absurd (eqb-false (s % 2) 1 m e))
@@ -179,8 +104,12 @@ unfolding marked
 kept-more zero s zero m ne = absurd (ne refl)
 kept-more zero s (suc j) m ne =
     let e = unmarked-digit s m in
-    ap (λ (x : ℕ). marked x j) (let q : (s + 1) / 2 ≡ s / 2 = omega arith in q)
-kept-more (suc i) s zero m ne = ap (λ (x : ℕ). eqb x 1) (digit-more i s)
+    let q : (s + 1) / 2 ≡ s / 2 = omega arith in
+    ap (λ (x : ℕ). marked x j) q
+kept-more (suc i) s zero m ne =
+    let w = pow-suc 2 i in
+    let q : (s + 2 ^ suc i) % 2 ≡ s % 2 = omega arith in
+    ap (λ (x : ℕ). eqb x 1) q
 kept-more (suc i) s (suc j) m ne = rw (half-more i s) (kept-more i (s / 2) j m (λ e. ne (ap suc e)))
 
 pub more-by-worth : (i s : ℕ) → marked s i ≡ false → More s i (s + 2 ^ i)
@@ -192,25 +121,42 @@ more-by-worth i s m j =
 pub more-fits : (k i s : ℕ) → i < k → s < 2 ^ k → marked s i ≡ false → s + 2 ^ i < 2 ^ k
 unfolding marked
 more-fits zero i s l h m = absurd (not-suc-le-zero l)
-more-fits (suc k) zero s l h m =
-    let w = pow-suc 2 k in
-    let e = unmarked-digit s m in
-    let q : s + 1 < 2 ^ suc k = omega arith in q
+more-fits (suc k) zero s l h m = let q : s + 1 < 2 ^ suc k = omega (arith, pow-suc 2 k, unmarked-digit s m) in q
 more-fits (suc k) (suc i) s l h m =
     let w = pow-suc 2 k in
-    let v = pow-suc 2 i in
-    let r = more-fits k i (s / 2) (omega arith) (omega arith) m in
-    omega arith
+    omega (arith, pow-suc 2 i, more-fits k i (s / 2) (omega arith) (omega arith) m)
+
+gone-less : (i s : ℕ) → marked s i ≡ true → marked (s - 2 ^ i) i ≡ false
+unfolding marked
+gone-less zero s m = let e = eqb-true (s % 2) 1 m in ne-eqb ((s - 1) % 2) 1 (λ o. omega arith)
+gone-less (suc i) s m =
+    let half : (s - 2 ^ suc i) / 2 ≡ s / 2 - 2 ^ i = omega (arith, pow-suc 2 i, worth (suc i) s m) in
+    rw half (gone-less i (s / 2) m)
+
+-- a row less is the set to which that row is one more
+kept-less : (i s j : ℕ) → marked s i ≡ true → ¬ (j ≡ i) → marked (s - 2 ^ i) j ≡ marked s j
+kept-less i s j m ne =
+    let whole : s - 2 ^ i + 2 ^ i ≡ s = omega (arith, worth i s m) in
+    sym (rw whole at (kept-more i (s - 2 ^ i) j (gone-less i s m) ne))
+
+pub less-by-worth : (i s : ℕ) → marked s i ≡ true → Less s i (s - 2 ^ i)
+less-by-worth i s m =
+    record {
+      marks =
+          fun-ext
+          (λ j.
+          by-eq j i
+          (λ e. rw e (gone-less i s m ∙ sym (without-same (marked s) i)))
+          (λ e. kept-less i s j m e ∙ sym (without-other (marked s) i j e)));
+      smaller = omega (arith, pow-pos i, worth i s m);
+    }
 
 all-marked : (n j : ℕ) → j < n → marked (2 ^ n - 1) j ≡ true
 unfolding marked
 all-marked zero j h = absurd (not-suc-le-zero h)
-all-marked (suc n) zero h =
-    let w = pow-suc 2 n in
-    let p = pow-pos n in
-    eq-eqb ((2 ^ suc n - 1) % 2) 1 (omega arith)
+all-marked (suc n) zero h = eq-eqb ((2 ^ suc n - 1) % 2) 1 (omega (arith, pow-suc 2 n, pow-pos n))
 all-marked (suc n) (suc j) h =
-    let e : (2 ^ suc n - 1) / 2 ≡ 2 ^ n - 1 = let w = pow-suc 2 n in let p = pow-pos n in omega arith in
+    let e : (2 ^ suc n - 1) / 2 ≡ 2 ^ n - 1 = omega (arith, pow-suc 2 n, pow-pos n) in
     rw e (all-marked n j (le-of-suc-le-suc h))
 
 pub whole-by-power : (n : ℕ) → Whole n (2 ^ n - 1)
@@ -225,8 +171,9 @@ whole-by-power n j =
 -- the same set by a shift of all 32 marks
 pub shifted : (n : ℕ) → n ≤ 32 → 4294967295 / 2 ^ (32 - n) ≡ 2 ^ n - 1
 shifted n h =
+    let f : n + (32 - n) ≡ 32 = omega arith in
     let e : 4294967295 ≡ (2 ^ n - 1) * 2 ^ (32 - n) + (2 ^ (32 - n) - 1) =
-    (let f : n + (32 - n) ≡ 32 = omega arith in ap (λ (x : ℕ). 2 ^ x - 1) (sym f) ∙ ones-split n (32 - n)) in
+    ap (λ (x : ℕ). 2 ^ x - 1) (sym f) ∙ ones-split n (32 - n) in
     rw e (high (2 ^ n - 1) (32 - n) (let p = pow-pos (32 - n) in omega arith))
 
 -- 1 << i
