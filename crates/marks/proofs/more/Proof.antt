@@ -4,13 +4,10 @@ use Rattle.marks.proofs.Marks.{one-shl, more-fits, more-by-worth}
 use Rattle.marks.proofs.more.Statement.{statement}
 use Rattle.marks.proofs.more.Tie as tie
 
-add-result : tie.Need-add-result
-add-result c =
-    rw (one-shl (c .args .i) (c .pre .0))
-    (let w = more-fits 32 (c .args .i) (c .args .set) (c .pre .0) (c .fits .set .fits) (c .pre .1) in search needs)
-
-returns : tie.Need-returns
-returns c = rw (one-shl (c .args .i) (c .pre .0)) (more-by-worth (c .args .i) (c .args .set) (c .pre .1))
-
 pub more-spec : {M : Type 1} → statement M
-more-spec = tie.close (tie.spec (λ c. search needs) add-result returns)
+more-spec =
+    tie.close
+    (tie.spec (λ c. search needs)
+    (λ c. rw (one-shl (c .args .i) (c .pre .0))
+    (let w = more-fits 32 (c .args .i) (c .args .set) (c .pre .0) (c .fits .set .fits) (c .pre .1) in search needs))
+    (λ c. rw (one-shl (c .args .i) (c .pre .0)) (more-by-worth (c .args .i) (c .args .set) (c .pre .1))))

@@ -3,8 +3,5 @@ use Rattle.marks.proofs.Marks.{next-by-zeros}
 use Rattle.marks.proofs.next.Statement.{statement}
 use Rattle.marks.proofs.next.Tie as tie
 
-returns : tie.Need-returns
-returns c = next-by-zeros (c .args .set) (c .pre) (c .fits .set .fits)
-
 pub next-spec : {M : Type 1} → statement M
-next-spec = tie.close (tie.spec returns)
+next-spec = tie.close (tie.spec (λ c. next-by-zeros (c .args .set) (c .pre) (c .fits .set .fits)))

@@ -4,8 +4,8 @@ use Rattle.marks.proofs.Marks.{shifted, whole-by-power}
 use Rattle.marks.proofs.whole.Statement.{statement}
 use Rattle.marks.proofs.whole.Tie as tie
 
-returns : tie.Need-returns
-returns c = rw (shifted (c .args .n) (c .pre .1)) (whole-by-power (c .args .n))
-
 pub whole-spec : {M : Type 1} → statement M
-whole-spec = tie.close (tie.spec (λ c. search needs) (λ c. search needs) returns)
+whole-spec =
+    tie.close
+    (tie.spec (λ c. search needs) (λ c. search needs)
+    (λ c. rw (shifted (c .args .n) (c .pre .1)) (whole-by-power (c .args .n))))
