@@ -1,7 +1,7 @@
 -- What an operation's answer tells: any two results that a promise allows are equal, where each check has one place and
 -- the given answer is settled; and the number 0 is that of a given answer.
 use Prim.Native.Nat.{ℕ, _+_, _-_, _≤_}
-use mathlib.Core.Path.{_≡_, sym, ap, _∙_}
+use mathlib.Core.Path.{_≡_, sym, _∙_}
 use mathlib.Core.Bool.{Bool, true, _&&_}
 use mathlib.Core.Logic.{_⊎_, ⊎-elim}
 use mathlib.Core.List.{List, [], _∷_}
@@ -36,12 +36,7 @@ OneGiven Given = (v w : ℕ) (l m : List ℕ) → Given v l → Given w m → (v
 
 pub result-same : (r s : Result) → r .number ≡ s .number → r .place ≡ s .place → r .value ≡ s .value → r .out ≡ s .out →
     r ≡ s
-result-same r s n p v o = ext n p v o
-  where
-    ext : {n m p q v w : ℕ} {l k : List ℕ} → n ≡ m → p ≡ q → v ≡ w → l ≡ k →
-        _≡_ {A = Result} (record { number = n; place = p; value = v; out = l })
-        (record { number = m; place = q; value = w; out = k })
-    ext n p v o = rw (n, p, v, o)
+result-same r s n p v o = λ i. record { number = n i; place = p i; value = v i; out = o i }
 
 refused-same : (c : Check) (out : List ℕ) (r s : Result) → OnePlace c → Refused c out r → Refused c out s → r ≡ s
 refused-same c out r s one a b =
@@ -87,12 +82,7 @@ beyond {r = r} clear = ⊎-elim (λ x. absurd (clear (r .place) (x .place))) (λ
 -- two lists whose remainders from n on are the same agree from n on
 pub same-rest : (n : ℕ) (l m : List ℕ) → drop n l ≡ drop n m → (i : ℕ) → n ≤ i → getD l i 0 ≡ getD m i 0
 same-rest n l m e i h =
-    let q : n + (i - n) ≡ i = omega arith in
-    ap (λ k. getD l k 0) (sym q)
-    ∙ sym (getD-drop n l (i - n) 0)
-    ∙ ap (λ x. getD x (i - n) 0) e
-    ∙ getD-drop n m (i - n) 0
-    ∙ ap (λ k. getD m k 0) q
+    let q : n + (i - n) ≡ i = omega arith in cc (getD-drop n l (i - n) 0, getD-drop n m (i - n) 0)
 
 -- the checks of tables, plans, job lists and outputs
 pub shape-place : (xs : List ℕ) → OnePlace (shape xs)

@@ -13,6 +13,7 @@ use Rattle.tables.specs.Jobs.{Jobs, WellFormedJobs, job-width, most-jobs
 use Rattle.tables.specs.Refusal.{Clear}
 use Rattle.tables.specs.Checks.{Rows, RowAtFault, shape, range, plan-form, BreaksAlone, BreaksAgainst, jobs-shape}
 use Rattle.tables.specs.Checks.{job-rules}
+use Rattle.tables.proofs.Checked.{first-here}
 
 -- an order and an equation that are not refuted
 not-not-le : (a b : ℕ) → ((a ≤ b → ⊥) → ⊥) → a ≤ b
@@ -27,33 +28,19 @@ no-least {E} none t = below (suc t) t (omega arith)
   where
     below : (k t : ℕ) → t < k → E t → ⊥
     below zero t h e = absurd (omega arith)
-    below (suc k) t h e =
-        none t
-        (record {
-          low = omega arith;
-          holds = e;
-          least = λ u _ g. by-le t u (λ l. l) (λ l. absurd (below k u (omega arith) g));
-        })
+    below (suc k) t h e = none t (first-here t e (λ u l. below k u (omega arith)))
 
 -- the shape of a table
 pub rows-of-shape : (xs : List ℕ) → Clear (shape xs) → Rows row-width xs
 rows-of-shape xs clear =
     let n = length xs / row-width in
-    let whole : length xs ≡ row-width * n = not-not-eq (length xs) (row-width * n)
-    (λ h. clear 0 (refl, λ r. h (at r))) in
+    let no : (Rows row-width xs → ⊥) → ⊥ = λ h. clear 0 (refl, h) in
     record {
       n = n;
-      whole = whole;
-      some = not-not-le 1 n (λ h. clear 0 (
-        refl,
-        λ r. h
-            (let e = at r in let f = r .whole in let g = r .some in omega arith),
-      ));
-      few = not-not-le n most-rows (λ h. clear 0 (refl, λ r. h (let f = r .whole in let g = r .few in omega arith)));
+      whole = not-not-eq (length xs) (row-width * n) (λ h. no (λ r. h (omega arith)));
+      some = not-not-le 1 n (λ h. no (λ r. h (omega arith)));
+      few = not-not-le n most-rows (λ h. no (λ r. h (omega arith)));
     }
-  where
-    at : Rows row-width xs → length xs ≡ row-width * (length xs / row-width)
-    at r = let e = r .whole in omega arith
 
 pub shape-of-rows : (xs : List ℕ) → Rows row-width xs → Clear (shape xs)
 shape-of-rows xs r place h = h .1 r
@@ -74,9 +61,6 @@ range-of-within xs within place l = l .holds .1 (within place (l .holds .0))
 pub sound-of-clear : (xs : List ℕ) → Clear (shape xs) → Clear (range xs) → Sound (tableOf xs)
 sound-of-clear xs s r =
     let rows = rows-of-shape xs s in
-    let e = rows .whole in
-    let a = rows .some in
-    let b = rows .few in
     record {
       some = omega arith;
       few = omega arith;
@@ -89,8 +73,7 @@ pub clear-of-sound : (xs : List ℕ) → length xs ≡ row-width * tableOf xs .n
     Clear (shape xs) × Clear (range xs)
 clear-of-sound xs whole s = (
   shape-of-rows xs (record { n = tableOf xs .n; whole = whole; some = s .some; few = s .few }),
-  range-of-within xs
-      within,
+  range-of-within xs within,
 )
   where
     within : (i : ℕ) → i < length xs → Within (getD xs i 0)
@@ -131,27 +114,25 @@ plan-of-clear tb ps clear = (
 
 pub clear-of-plan : (tb : Table) (ps : List ℕ) → length ps ≡ plan-width * tb .n → WellFormed tb (planOf ps) →
     Clear (plan-form tb ps)
-clear-of-plan tb ps whole w place h =
+clear-of-plan tb ps whole w place =
     ⊎-elim
     (λ a. a .1 whole)
-    (λ b. fault place (b .1 .holds .0) (b .1 .holds .1))
-    h
-  where
-    fault : (i : ℕ) → i < tb .n → RowAtFault tb (planOf ps) i → ⊥
-    fault i l f =
-        ⊎-elim
-        (⊎-elim
-        (λ r. r (w .rank-low i l, w .rank-high i l))
-        (λ r. let e = w .once (r .0) i (let g = r .1 in omega arith) l (r .2) in let g = r .1 in omega arith))
-        (λ r. r (w .len-low i l, w .len-high i l))
-        f
+    (λ b.
+    let i = place in
+    let l = b .1 .holds .0 in
+    ⊎-elim
+    (⊎-elim
+    (λ r. r (w .rank-low i l, w .rank-high i l))
+    (λ r. let g = r .1 in omega (arith, w .once (r .0) i (omega arith) l (r .2))))
+    (λ r. r (w .len-low i l, w .len-high i l))
+    (b .1 .holds .1))
 
 -- a job list that the checks 7 and 8 do not refuse is well formed
 pub jobs-of-shape : (js : List ℕ) → Clear (jobs-shape js) →
     (length js ≡ job-width * jobsOf js .N) × (jobsOf js .N ≤ most-jobs)
 jobs-of-shape js clear = (
-  not-not-eq (length js) (job-width * jobsOf js .N) (λ h. clear 0 (refl, λ r. h (let e = r .1 in omega arith))),
-  not-not-le (jobsOf js .N) most-jobs (λ h. clear 0 (refl, λ r. h (let e = r .1 in let f = r .2 in omega arith))),
+  not-not-eq (length js) (job-width * jobsOf js .N) (λ h. clear 0 (refl, λ r. h (omega (arith, r .1)))),
+  not-not-le (jobsOf js .N) most-jobs (λ h. clear 0 (refl, λ r. h (omega (arith, r .1, r .2)))),
 )
 
 pub jobs-of-clear : (tb : Table) (js : List ℕ) → Clear (jobs-shape js) → Clear (job-rules tb js) →
@@ -164,20 +145,15 @@ jobs-of-clear tb js s r =
             row = λ k h. not-not-le (suc (J .row k)) (tb .n) (λ g. alone k h (λ a. g (a .0)));
             run-low = λ k h. not-not-le 1 (J .run k) (λ g. alone k h (λ a. g (a .2)));
             run-high = λ k h. not-not-le (J .run k) (tb .C (J .row k)) (λ g. alone k h (λ a. g (a .3)));
-            apart =
-                λ k l b h e. inl (not-not-le (J .release k + tb .T (J .row k)) (J .release l)
-                (λ g. against k l b h (inr (e, lt (J .release k + tb .T (J .row k)) (J .release l) g))));
+            apart = λ k l b h e. by-le (J .release k + tb .T (J .row k)) (J .release l) inl
+                (λ g. absurd (against k l b h (inr (e, g))));
           };
       soon = λ k h. not-not-le (J .release k) last-release (λ g. alone k h (λ a. g (a .1)));
-      order = λ k l b h. not-not-le (J .release k) (J .release l)
-          (λ g. against k l b h (inl (lt (J .release k) (J .release l) g)));
+      order = λ k l b h. by-le (J .release k) (J .release l) (λ g. g) (λ g. absurd (against k l b h (inl g)));
     }
   where
     J : Jobs
     J = jobsOf js
-
-    lt : (a b : ℕ) → (a ≤ b → ⊥) → b < a
-    lt a b n = by-le a b (λ h. absurd (n h)) (λ h. h)
 
     alone : (k : ℕ) → k < J .N → BreaksAlone tb J k → ⊥
     alone k h b = no-least r k (h, inl b)
@@ -188,21 +164,3 @@ jobs-of-clear tb js s r =
 pub shape-of-jobs : (js : List ℕ) → length js ≡ job-width * jobsOf js .N → jobsOf js .N ≤ most-jobs →
     Clear (jobs-shape js)
 shape-of-jobs js whole few place h = h .1 (jobsOf js .N, whole, few)
-
-pub rules-of-jobs : (tb : Table) (js : List ℕ) → ((i : ℕ) → i < tb .n → 1 ≤ tb .T i) → WellFormedJobs tb (jobsOf js) →
-    Clear (job-rules tb js)
-rules-of-jobs tb js spaced w place l =
-    let k = place in
-    let h = l .holds .0 in
-    ⊎-elim
-    (λ b. b (w .lawful .row k h, w .soon k h, w .lawful .run-low k h, w .lawful .run-high k h))
-    (λ b.
-    let f = w .order (b .0) k (b .1) h in
-    ⊎-elim
-    (λ e. omega arith)
-    (λ e. ⊎-elim
-    (λ g. let m = e .1 in omega arith)
-    (λ g. let q = spaced (jobsOf js .row (b .0)) (w .lawful .row (b .0) (let x = b .1 in omega arith)) in omega arith)
-    (w .lawful .apart (b .0) k (b .1) h (e .0)))
-    (b .2))
-    (l .holds .1)

@@ -1,12 +1,12 @@
 -- Laws of the rows in an array: stores below a row, and the array that holds a slice's table.
 use Prim.Native.Nat.{ℕ, _+_, _*_, _<_, _≤_}
-use mathlib.Core.Path.{_≡_, sym, ap, _∙_, fun-ext}
+use mathlib.Core.Path.{_≡_, sym, ap, _∙_}
 use mathlib.Core.List.{List}
 use native.Mathlib.Omega.{arith}
 use lib.ListN.{length, getD, set, replicate, length-replicate, getD-replicate, List·getD-eq-default}
 use lib.Seq.{getD-set-same, getD-set-other}
 use Rattle.counting.proofs.Cases.{by-le, by-eq}
-use Rattle.tables.specs.Table.{Table, row-width, tableOf}
+use Rattle.tables.specs.Table.{row-width, tableOf}
 use Rattle.tables.specs.inside.Rows.{no, tableIn}
 use Rattle.tables.specs.declared.Row.{Row}
 
@@ -44,18 +44,18 @@ module _ {A : Type 0} (z : A) (f : ℕ → A) where
             (λ h. getD-replicate m k z z h);
       }
 
-table-ext : {n m : ℕ} {C D T C′ D′ T′ : ℕ → ℕ} → n ≡ m → C ≡ C′ → D ≡ D′ → T ≡ T′ →
-    _≡_ {A = Table} (record { n = n; C = C; D = D; T = T }) (record { n = m; C = C′; D = D′; T = T′ })
-table-ext n C D T = rw (n, C, D, T)
-
 -- what an array of n rows holds of a slice is the slice's table
 pub table-rows : (rows : List Row) (xs : List ℕ) (n : ℕ) → length xs ≡ row-width * n → Holds no (rowAt xs) rows n →
     tableIn rows n ≡ tableOf xs
 table-rows rows xs n whole h =
-    table-ext (omega arith)
-    (fun-ext (λ i. at (λ r. r .c) i (past i (row-width * i) (λ g. omega arith))))
-    (fun-ext (λ i. at (λ r. r .d) i (past i (row-width * i + 1) (λ g. omega arith))))
-    (fun-ext (λ i. at (λ r. r .t) i (past i (row-width * i + 2) (λ g. omega arith))))
+    let rows-same : n ≡ tableOf xs .n = omega arith in
+    λ x.
+    record {
+      n = rows-same x;
+      C = λ i. at (λ r. r .c) i (past i (row-width * i) (λ g. omega arith)) x;
+      D = λ i. at (λ r. r .d) i (past i (row-width * i + 1) (λ g. omega arith)) x;
+      T = λ i. at (λ r. r .t) i (past i (row-width * i + 2) (λ g. omega arith)) x;
+    }
   where
     past : (i k : ℕ) → (n ≤ i → length xs ≤ k) → n ≤ i → 0 ≡ getD xs k 0
     past i k le g = sym (List·getD-eq-default xs 0 (le g))

@@ -23,20 +23,11 @@ use Rattle.tables.proofs.Answered.{range-place, plan-form-place}
 -- the case of the enum `Answer` by the paper's number
 abbrev caseOf : Result → Answer
 caseOf r =
+    let at = r .place in
     getD
-    (answer.Given (r .value)
-    ∷ answer.Shape
-    ∷ answer.Room
-    ∷ answer.Range (r .place)
-    ∷ answer.NoBusy
-    ∷ answer.NoPlan
-    ∷ answer.Plan (r .place)
-    ∷ answer.JobsShape
-    ∷ answer.Job (r .place)
-    ∷ answer.Sheet (r .place)
-    ∷ [])
-    (r .number)
-    answer.Shape
+    (answer.Given (r .value) ∷ answer.Shape ∷ answer.Room ∷ answer.Range at ∷ answer.NoBusy ∷ answer.NoPlan
+    ∷ answer.Plan at ∷ answer.JobsShape ∷ answer.Job at ∷ answer.Sheet at ∷ [])
+    (r .number) answer.Shape
 
 case-told : (a : Answer) (out : List ℕ) → caseOf (resultOf a out) ≡ a
 case-told (answer.Given v) out = refl
@@ -60,8 +51,7 @@ Tells a r = (r .number ≡ numberOf a) × (r .place ≡ placeOf a) × (r .value 
 
 pub said-unique : (a : Answer) (r s : Said) → Tells a r → Tells a s → r ≡ s
 said-unique a r s p q =
-    λ i.
-    record { number = (p .0 ∙ sym (q .0)) i; place = (p .1 ∙ sym (q .1)) i; value = (p .2 ∙ sym (q .2)) i }
+    λ i. record { number = (p .0 ∙ sym (q .0)) i; place = (p .1 ∙ sym (q .1)) i; value = (p .2 ∙ sym (q .2)) i }
 
 -- the checks of a task table and of a plan
 pub table-checked-unique : (xs : List ℕ) (a b : TableCheck) → TableChecked xs a → TableChecked xs b → a ≡ b
@@ -84,13 +74,4 @@ plan-checked-unique tb ps (AtFault a) (AtFault b) p q = ap AtFault (plan-form-pl
 
 -- the rows of a task table: two arrays of one length that hold one table
 pub rows-unique : (a b : List Row) (n : ℕ) → length a ≡ length b → tableIn a n ≡ tableIn b n → a ≡ b
-rows-unique a b n l e = ext-getD no a b l (λ k h. at k)
-  where
-    at : (k : ℕ) → getD a k no ≡ getD b k no
-    at k =
-        λ i.
-        record {
-          c = ap (λ (tb : Table). tb .C k) e i;
-          d = ap (λ (tb : Table). tb .D k) e i;
-          t = ap (λ (tb : Table). tb .T k) e i;
-        }
+rows-unique a b n l e = ext-getD no a b l (λ k h i. record { c = e i .C k; d = e i .D k; t = e i .T k })
