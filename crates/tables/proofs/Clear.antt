@@ -128,18 +128,11 @@ clear-of-plan tb ps whole w place =
     (b .1 .holds .1))
 
 -- a job list that the checks 7 and 8 do not refuse is well formed
-pub jobs-of-shape : (js : List ℕ) → Clear (jobs-shape js) →
-    (length js ≡ job-width * jobsOf js .N) × (jobsOf js .N ≤ most-jobs)
-jobs-of-shape js clear = (
-  not-not-eq (length js) (job-width * jobsOf js .N) (λ h. clear 0 (refl, λ r. h (omega (arith, r .1)))),
-  not-not-le (jobsOf js .N) most-jobs (λ h. clear 0 (refl, λ r. h (omega (arith, r .1, r .2)))),
-)
-
 pub jobs-of-clear : (tb : Table) (js : List ℕ) → Clear (jobs-shape js) → Clear (job-rules tb js) →
     WellFormedJobs tb (jobsOf js)
 jobs-of-clear tb js s r =
     record {
-      few = jobs-of-shape js s .1;
+      few = not-not-le (J .N) most-jobs (λ h. s 0 (refl, λ r. h (omega (arith, r .1, r .2))));
       lawful =
           record {
             row = λ k h. not-not-le (suc (J .row k)) (tb .n) (λ g. alone k h (λ a. g (a .0)));

@@ -18,18 +18,12 @@ Inv-loop rows n plan row₀ row = (row ≤ n) × ((j : ℕ) → j < row → RowA
 abbrev μ-loop : tie.MeasureT-loop
 μ-loop rows n plan row₀ row = n - row
 
-returns : tie.Need-returns Inv-loop μ-loop
-returns c = inl (refl, c .if1 .taken)
-
-loop-holds : tie.Need-loop-holds Inv-loop μ-loop
-loop-holds c = (search needs, below-none _)
-
 returns-2 : tie.Need-returns-2 Inv-loop μ-loop
 returns-2 c =
-    let start = c .before .before .before .before .before .before in
+    let given = c .before .before .before .before .before .before .args in
     let here = c .before .before .before .loop in
-    plan-hit (tableIn (start .args .rows) (start .args .n)) (start .args .plan .now)
-    (c .before .before .before .before .if1 .left) (here .row) (here .inv .1) (omega arith)
+    plan-hit (tableIn (given .rows) (given .n)) (given .plan .now) (c .before .before .before .before .if1 .left)
+    (here .row) (here .inv .1) (omega arith)
     (says-yes (c .before .row-at-fault .result) (c .if2 .taken) (c .before .row-at-fault .ensures))
 
 loop-again : tie.Need-loop-again Inv-loop μ-loop
@@ -41,13 +35,13 @@ loop-again c = (
 
 returns-3 : tie.Need-returns-3 Inv-loop μ-loop
 returns-3 c =
-    let start = c .before .before .before .before in
+    let given = c .before .before .before .before .args in
     let here = c .before .loop in
-    plan-clear (tableIn (start .args .rows) (start .args .n)) (start .args .plan .now) (c .before .before .if1 .left)
-    (here .row) (here .inv .1) (omega arith)
+    plan-clear (tableIn (given .rows) (given .n)) (given .plan .now) (c .before .before .if1 .left) (here .row)
+    (here .inv .1) (omega arith)
 
 pub check-plan-spec : {M : Type 1} → statement M
 check-plan-spec =
     tie.close
-    (tie.spec Inv-loop μ-loop (λ c. search needs) returns loop-holds (λ c κs. search needs)
-    (λ c. search needs) returns-2 (λ c. search needs) (λ c. search needs) loop-again returns-3)
+    (tie.spec Inv-loop μ-loop (λ c. search needs) (λ c. inl (refl, c .if1 .taken)) (λ c. (search needs, below-none _))
+    (λ c κs. search needs) (λ c. search needs) returns-2 (λ c. search needs) (λ c. search needs) loop-again returns-3)

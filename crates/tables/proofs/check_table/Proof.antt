@@ -1,5 +1,6 @@
 -- `check_table` meets its contract.
-use Prim.Native.Nat.{_/_}
+use Prim.Native.Nat.{ℕ, _/_}
+use mathlib.Core.List.{List}
 use native.Mathlib.Omega.{arith}
 use lib.ListN.{length}
 use borrow.Author.Needs.{needs}
@@ -11,29 +12,23 @@ use Rattle.tables.proofs.check_table.Statement.{statement}
 use Rattle.tables.proofs.check_table.Tie as tie
 
 -- three tests passed: the slice is rows
-rows : (c : tie.After-first-outside) → Rows row-width (c .before .before .before .before .before .args .xs .now)
-rows c =
-    record {
-      n = length (c .before .before .before .before .before .args .xs .now) / row-width;
-      whole = omega arith;
-      some = omega arith;
-      few = omega arith;
-    }
+module _ (c : tie.After-first-outside) where
+  abbrev xs : List ℕ
+  xs = c .before .before .before .before .before .args .xs .now
+
+  rows : Rows row-width xs
+  rows = record { n = length xs / row-width; whole = omega arith; some = omega arith; few = omega arith }
 
 returns-4 : tie.Need-returns-4
 returns-4 c =
-    let xs = c .before .before .before .before .before .before .args .xs .now in
-    let f = c .before .first-outside in (
-      shape-of-rows xs (rows (c .before)),
-      range-hit xs (f .result) (f .ensures) (c .if4 .taken),
-    )
+    let f = c .before .first-outside in
+    (shape-of-rows (xs (c .before)) (rows (c .before)), range-hit _ (f .result) (f .ensures) (c .if4 .taken))
 
 returns-5 : tie.Need-returns-5
 returns-5 c =
-    let xs = c .before .before .before .before .before .before .args .xs .now in
     let f = c .before .first-outside in (
-      shape-of-rows xs (rows (c .before)),
-      range-clear xs (f .result) (f .ensures) (c .if4 .left),
+      shape-of-rows (xs (c .before)) (rows (c .before)),
+      range-clear _ (f .result) (f .ensures) (c .if4 .left),
       omega arith,
     )
 

@@ -14,34 +14,19 @@ Inv-loop xs at₀ at = (at ≤ length xs) × ((j : ℕ) → j < at → Within (g
 abbrev μ-loop : tie.MeasureT-loop
 μ-loop xs at₀ at = length xs - at
 
-loop-holds : tie.Need-loop-holds Inv-loop μ-loop
-loop-holds c = (search needs, below-none _)
-
 returns : tie.Need-returns Inv-loop μ-loop
 returns c =
-    let here = c .before .before .before .loop in
-    record {
-      inside = omega arith;
-      within = here .inv .1;
-      outside = λ _ w. let l = w .low in let t = c .if1 .taken in
-          omega arith;
-    }
+    record { inside = omega arith; within = c .before .before .before .loop .inv .1; outside = λ _ w. omega arith }
 
 returns-2 : tie.Need-returns-2 Inv-loop μ-loop
 returns-2 c =
     let here = c .before .before .before .before .loop in
-    record {
-      inside = omega arith;
-      within = here .inv .1;
-      outside = λ _ w. let l = w .high in let t = c .if2 .taken in
-          omega arith;
-    }
+    record { inside = omega arith; within = here .inv .1; outside = λ _ w. omega arith }
 
 loop-again : tie.Need-loop-again Inv-loop μ-loop
 loop-again c = (
   search needs,
-  below-more _ _ (c .before .before .before .before .loop .inv .1)
-      (record { low = omega arith; high = omega arith }),
+  below-more _ _ (c .before .before .before .before .loop .inv .1) (record { low = omega arith; high = omega arith }),
 )
 
 returns-3 : tie.Need-returns-3 Inv-loop μ-loop
@@ -50,5 +35,5 @@ returns-3 c = record { inside = omega arith; within = c .before .loop .inv .1; o
 pub first-outside-spec : {M : Type 1} → statement M
 first-outside-spec =
     tie.close
-    (tie.spec Inv-loop μ-loop loop-holds (λ c. search needs) (λ c. search needs) returns returns-2
-    (λ c. search needs) (λ c. search needs) loop-again returns-3)
+    (tie.spec Inv-loop μ-loop (λ c. (search needs, below-none _)) (λ c. search needs) (λ c. search needs) returns
+    returns-2 (λ c. search needs) (λ c. search needs) loop-again returns-3)

@@ -15,29 +15,14 @@ Inv-loop plan i at rank j₀ j = (j ≤ i) × (at ≡ 2 * i) × (rank ≡ getD p
 abbrev μ-loop : tie.MeasureT-loop
 μ-loop plan i at rank j₀ j = i - j
 
-loop-holds : tie.Need-loop-holds Inv-loop μ-loop
-loop-holds c = (search needs, search needs, search needs, below-none _)
-
-returns : tie.Need-returns Inv-loop μ-loop
-returns c = (c .before .before .before .loop .j, omega arith, omega arith)
-
 loop-again : tie.Need-loop-again Inv-loop μ-loop
-loop-again c = (
-  search needs,
-  search needs,
-  search needs,
-  below-more _ _ (c .before .before .before .loop .inv .3)
-      (c .if1 .left),
-)
-
-returns-2 : tie.Need-returns-2 Inv-loop μ-loop
-returns-2 c t =
-    let here = c .before .loop in
-    here .inv .3 (t .0) (let l = t .1 in omega arith) (t .2)
+loop-again c =
+    (search needs, search needs, search needs, below-more _ _ (c .before .before .before .loop .inv .3) (c .if1 .left))
 
 pub rank-taken-spec : {M : Type 1} → statement M
 rank-taken-spec =
     tie.close
-    (tie.spec Inv-loop μ-loop (λ c. search needs) (λ c. search needs) (λ c. search needs) loop-holds
-    (λ c. search needs) (λ c. search needs) (λ c. search needs) returns (λ c. search needs)
-    (λ c. search needs) loop-again returns-2)
+    (tie.spec Inv-loop μ-loop (λ c. search needs) (λ c. search needs) (λ c. search needs)
+    (λ c. (search needs, search needs, search needs, below-none _)) (λ c. search needs) (λ c. search needs)
+    (λ c. search needs) (λ c. (c .before .before .before .loop .j, omega arith, omega arith)) (λ c. search needs)
+    (λ c. search needs) loop-again (λ c t. c .before .loop .inv .3 (t .0) (omega (arith, t .1)) (t .2)))

@@ -15,26 +15,19 @@ Inv-loop xs n rows₀ i₀ rows i = (i ≤ n) × (length rows ≡ 32) × Holds n
 abbrev μ-loop : tie.MeasureT-loop
 μ-loop xs n rows₀ i₀ rows i = n - i
 
-loop-holds : tie.Need-loop-holds Inv-loop μ-loop
-loop-holds c = (search needs, refl, holds-none no (rowAt (c .args .xs .now)) 32)
-
 loop-again : tie.Need-loop-again Inv-loop μ-loop
-loop-again c = let l = c .before .before .before .before .loop in (
-  search needs,
-  search needs,
-  holds-more no (rowAt (c .before .before .before .before .before .args .xs .now)) (l .inv .2) (omega arith),
-)
+loop-again c =
+    (search needs, search needs, holds-more no _ (c .before .before .before .before .loop .inv .2) (omega arith))
 
 returns : tie.Need-returns Inv-loop μ-loop
 returns c =
     let e : c .before .loop .i ≡ c .before .before .args .n = omega arith in
-    table-rows (c .before .loop .rows) (c .before .before .args .xs .now) (c .before .before .args .n)
-    (c .before .before .pre .1) (rw e at (c .before .loop .inv .2))
+    table-rows _ (c .before .before .args .xs .now) _ (c .before .before .pre .1) (rw e at (c .before .loop .inv .2))
 
 pub rows-of-spec : {M : Type 1} → statement M
 rows-of-spec =
     tie.close
-    (tie.spec Inv-loop μ-loop loop-holds (λ c. search needs) (λ c. search needs) (λ c. search needs)
+    (tie.spec Inv-loop μ-loop (λ c. (search needs, refl, holds-none no _ 32)) (λ c. search needs) (λ c. search needs)
     (λ c. search needs) (λ c. search needs) (λ c. search needs) (λ c. search needs) (λ c. search needs)
     (λ c. search needs) (λ c. search needs) (λ c. search needs) (λ c. search needs) (λ c. search needs)
-    loop-again returns)
+    (λ c. search needs) loop-again returns)
