@@ -1,4 +1,4 @@
--- The laws of the crate `ranks`.
+-- The laws of the crate `choice`.
 pub mod Level
 pub mod Ranked
 pub mod Filled

@@ -1,3 +1,3 @@
--- The definitions of the crate `ranks`.
+-- The definitions of the crate `choice`.
 pub mod Choice
 pub mod Answers

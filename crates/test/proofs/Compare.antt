@@ -1,7 +1,7 @@
 -- The comparisons of responses: by the load of the level, over two tables; and by the row's own length. What is smaller
 -- exists where the larger does.
 use Prim.Native.Nat.{ℕ, suc, _+_, _-_, _≤_, _<_}
-use mathlib.Core.Path.{_≡_, refl, subst}
+use mathlib.Core.Path.{_≡_}
 use mathlib.Core.Bool.{Bool}
 use native.Mathlib.Omega.{arith}
 use native.Mathlib.Nat.{mul-le-mul, mul-le-mul-left, mul-le-mul-right, le-trans}
@@ -12,42 +12,30 @@ use Rattle.test.specs.Test.{before, upto, load, Active, active-side, job
 use Rattle.test.proofs.Load.{Positive, load-upto, load-upto-mono}
 use Rattle.test.proofs.Sides.{active-side-is, active-side-mono, active-side-up, start-side-is, start-side-whole}
 use Rattle.test.proofs.Sides.{start-side-mono}
-use Rattle.test.proofs.Starts.{start-exists, start-prefix}
-use Rattle.test.proofs.Response.{response-exists, response-unique}
+use Rattle.test.proofs.Starts.{start-prefix}
+use Rattle.test.proofs.Response.{response-exists, response-unique, finish-by}
 
 -- Load: row i of one table against row i of another that has no smaller C and no larger T there, where the level asks
 -- for no less before any t.
 module _ (tb tb′ : Table) (P P′ : ℕ → Bool) (b b′ i : ℕ) (pos : Positive tb) (pos′ : Positive tb′) (l : i < tb .n)
-    (l′ : i < tb′ .n)
-    (leC : tb .C i ≤ tb′ .C i) (leT : tb′ .T i ≤ tb .T i)
+    (l′ : i < tb′ .n) (leC : tb .C i ≤ tb′ .C i) (leT : tb′ .T i ≤ tb .T i)
     (le : (t : ℕ) → 1 ≤ t → b + load before tb P t ≤ b′ + load before tb′ P′ t) where
   active-side-le : (t : ℕ) → 1 ≤ t → active-side tb P b i t ≤ active-side tb′ P′ b′ i t
   active-side-le t h =
-      omega (
-        arith,
-        active-side-is tb P b i t,
-        active-side-is tb′ P′ b′ i t,
-        le t h,
-        mul-le-mul (up-anti t (pos′ .T i l′) leT) leC,
-      )
+      let own = mul-le-mul (up-anti t (pos′ .T i l′) leT) leC in
+      omega (arith, active-side-is tb P b i t, active-side-is tb′ P′ b′ i t, le t h)
 
   start-side-le : (q k s : ℕ) → start-side tb P b i upto q k s ≤ start-side tb′ P′ b′ i upto q k s
   start-side-le q k s =
-      omega (
-        arith,
-        start-side-is tb P b i q k s,
-        start-side-is tb′ P′ b′ i q k s,
-        le (suc s) (omega arith),
-        load-upto tb pos P s,
-        load-upto tb′ pos′ P′ s,
-        mul-le-mul-left k leC,
-      )
+      let own = mul-le-mul-left k leC in
+      let above : load upto tb P s + b ≤ load upto tb′ P′ s + b′ =
+      omega (arith, le (suc s) (omega arith), load-upto tb pos P s, load-upto tb′ pos′ P′ s) in
+      omega (arith, start-side-is tb P b i q k s, start-side-is tb′ P′ b′ i q k s)
 
   pub active-compare : (L′ : ℕ) → Active tb′ P′ b′ i L′ → (L : ℕ) × Active tb P b i L × (L ≤ L′)
   active-compare L′ a =
       least-compare (active-side tb P b i) (active-side tb′ P′ b′ i) 1 (active-side-mono tb P b i)
-      (active-side-up tb P b i pos l)
-      active-side-le a
+      (active-side-up tb P b i pos l) active-side-le a
 
   pub jobs-compare : (L L′ : ℕ) → L ≤ L′ → jobs tb P b i L ≤ jobs tb′ P′ b′ i L′
   jobs-compare L L′ h = le-trans (up-mono (tb .T i) h) (up-anti L′ (pos′ .T i l′) leT)
@@ -55,8 +43,7 @@ module _ (tb tb′ : Table) (P P′ : ℕ → Bool) (b b′ i : ℕ) (pos : Posi
   pub start-compare : (q k s s′ : ℕ) → Start tb P b i q k s → Start tb′ P′ b′ i q k s′ → s ≤ s′
   start-compare q k s s′ st st′ =
       let r = least-compare (start-side tb P b i upto q k) (start-side tb′ P′ b′ i upto q k) 0
-      (start-side-mono tb P b i q k) (omega arith)
-      (λ u _. start-side-le q k u) st′ in
+      (start-side-mono tb P b i q k) (omega arith) (λ u _. start-side-le q k u) st′ in
       omega (arith, least-unique st (r .1), r .2)
 
   pub response-compare : (q R′ : ℕ) → 0 < q → q ≤ tb .C i → Response tb′ P′ b′ i q R′ →
@@ -67,19 +54,10 @@ module _ (tb tb′ : Table) (P P′ : ℕ → Bool) (b b′ i : ℕ) (pos : Posi
       let r = x .1 in
       let k = r .job in
       let same = least-unique (r .active) (a .1) in
-      let g : k < jobs tb′ P′ b′ i (r′ .period) = omega
-      (arith, r .counts, jobs-compare (r .period) (r′ .period) (omega arith)) in
-      let s = start-exists tb′ P′ b′ i pos′ l′ q some (omega arith) (r′ .period) (r′ .active) (suc k) (omega arith) g in (
-        x .0,
-        r,
-        omega (
-          arith,
-          r .reached .ends,
-          start-compare q (suc k) (r .reached .start) (s .0) (r .reached .starts) (s .1),
-          r′ .highest k (s .0 + q) g (record { start = s .0; starts = s .1; ends = refl }),
-          mul-le-mul-left k leT,
-        ),
-      )
+      let fewer = jobs-compare (r .period) (r′ .period) (omega arith) in
+      let s = finish-by tb′ P′ b′ i q pos′ l′ some (omega arith) R′ r′ k (omega (arith, r .counts)) in
+      let sooner = start-compare q (suc k) (r .reached .start) (s .0) (r .reached .starts) (s .1) in
+      (x .0, r, omega (arith, r .reached .ends, s .2, mul-le-mul-left k leT))
 
 -- Own region: a longer length of its own never raises a finish, nor the response. Active period and jobs do not depend
 -- on it.
@@ -88,15 +66,10 @@ module _ (tb : Table) (P : ℕ → Bool) (b i : ℕ) (pos : Positive tb) (l : i 
   pub start-longer : (k s s′ : ℕ) → 1 ≤ k → Start tb P b i q k s → Start tb P b i (q + d) k s′ → s′ + d ≤ s
   start-longer k s s′ h st st′ =
       let w = start-side-whole tb P b i q k s h (omega arith) in
-      let r = start-prefix tb P b i pos l (q + d) (omega arith) most k s′ (s - d) st′
-      (omega (
-        arith,
-        st .holds,
-        start-side-whole tb P b i (q + d) k (s - d) h most,
-        mul-le-mul-right (tb .C i) h,
-        load-upto-mono tb P (s - d) s (omega arith),
-      )) in
-      omega (arith, st .holds, mul-le-mul-right (tb .C i) h)
+      let own = mul-le-mul-right (tb .C i) h in
+      let rises = load-upto-mono tb P (s - d) s (omega arith) in
+      let asks = start-side-whole tb P b i (q + d) k (s - d) h most in
+      omega (arith, start-prefix tb P b i pos l (q + d) (omega arith) most k s′ (s - d) st′ (omega arith))
 
   pub response-longer : (R : ℕ) → Response tb P b i q R → (S : ℕ) × Response tb P b i (q + d) S × (S ≤ R)
   response-longer R r =
@@ -104,17 +77,9 @@ module _ (tb : Table) (P : ℕ → Bool) (b i : ℕ) (pos : Positive tb) (l : i 
       let y = x .1 in
       let k = y .job in
       let same = least-unique (y .active) (r .active) in
-      let g : k < jobs tb P b i (r .period) = subst (λ L. k < jobs tb P b i L) same (y .counts) in
-      let s = start-exists tb P b i pos l q some (omega arith) (r .period) (r .active) (suc k) (omega arith) g in (
-        x .0,
-        y,
-        omega (
-          arith,
-          y .reached .ends,
-          start-longer (suc k) (s .0) (y .reached .start) (omega arith) (s .1) (y .reached .starts),
-          r .highest k (s .0 + q) g (record { start = s .0; starts = s .1; ends = refl }),
-        ),
-      )
+      let s = finish-by tb P b i q pos l some (omega arith) R r k (rw same at (y .counts)) in
+      let sooner = start-longer (suc k) (s .0) (y .reached .start) (omega arith) (s .1) (y .reached .starts) in
+      (x .0, y, omega (arith, y .reached .ends, s .2))
 
 -- Alike: two levels that ask for the same have the same response.
 pub response-alike : (tb : Table) (P P′ : ℕ → Bool) (b b′ i q R : ℕ) → Positive tb → i < tb .n → 0 < q → q ≤ tb .C i →
@@ -125,5 +90,5 @@ response-alike tb P P′ b b′ i q R pos l some most same r =
     q R some most r in
     let y = response-compare tb tb P P′ b b′ i pos pos l l (omega arith) (omega arith) (λ t h. omega (arith, same t h))
     q (x .0) some most (x .1) in
-    subst (λ S. Response tb P′ b′ i q S) (omega (arith, x .2, y .2, response-unique tb P b i q R (y .0) r (y .1)))
-    (x .1)
+    let e : x .0 ≡ R = omega (arith, x .2, y .2, response-unique tb P b i q R (y .0) r (y .1)) in
+    rw e at (x .1)

@@ -1,4 +1,4 @@
--- The laws of the crate `response`.
+-- The laws of the crate `test`.
 pub mod Load
 pub mod Sides
 pub mod Starts

@@ -1,7 +1,7 @@
 -- Laws of a plan's rows: blocking, and that under a busy period within H every active period and every response exists,
 -- within it.
 use Prim.Native.Nat.{ℕ, pred, suc, _+_, _-_, _≤_, _<_}
-use mathlib.Core.Path.{_≡_, refl, ap, sym, _∙_, subst}
+use mathlib.Core.Path.{_≡_, refl, ap, _∙_}
 use mathlib.Core.Bool.{Bool, false}
 use native.Mathlib.Omega.{arith}
 use lib.Dec.{leb, ltb}
@@ -13,7 +13,7 @@ use Rattle.counting.proofs.Least.{least-bound, least-unique}
 use Rattle.tables.specs.Table.{Table, Sound}
 use Rattle.tables.specs.Plan.{Plan, WellFormed, blocks}
 use Rattle.test.specs.Test.{horizon, before, load, every-row, busy-side, BusyWithin, Active, active-side}
-use Rattle.test.specs.Test.{Response, above, below, longest, blocking, ResponseOf}
+use Rattle.test.specs.Test.{above, below, longest, blocking, ResponseOf}
 use Rattle.test.specs.Answers.{Bounded}
 use Rattle.test.proofs.Load.{Positive, sound-positive, load-sub, load-ext, load-without, run-asked}
 use Rattle.test.proofs.Compare.{response-alike}
@@ -29,11 +29,8 @@ module _ (tb : Table) (p : Plan) (r : ℕ) where
   pub longest-ge : (j : ℕ) → j < tb .n → r < p .rank j → p .len j ≤ longest tb p r
   unfolding longest
   longest-ge j l h =
-      omega (
-        arith,
-        largest-ge (λ k. given (below p r k) (blocks p k)) (tb .n) j l,
-        given-yes (below p r j) (blocks p j) (lt-ltb r _ (omega arith)),
-      )
+      let counts = given-yes (below p r j) (blocks p j) (lt-ltb r _ (omega arith)) in
+      omega (arith, largest-ge (λ k. given (below p r k) (blocks p k)) (tb .n) j l)
 
   -- where there is something below, nothing is cut off
   pub blocking-some : (j : ℕ) → j < tb .n → r < p .rank j → 1 ≤ p .len j → suc (blocking tb p r) ≡ longest tb p r
@@ -50,6 +47,14 @@ module _ (tb : Table) (p : Plan) (r : ℕ) where
       (λ t. some j l (omega (arith, ltb-true r _ t)) (e ∙ given-yes (below p r j) (blocks p j) t))
       (λ f. none (e ∙ given-no (below p r j) (blocks p j) f)))
 
+-- where each row below is below in another plan too, and no longer, the longest is no longer
+pub longest-le : (tb : Table) (p p′ : Plan) (r r′ : ℕ) →
+    ((j : ℕ) → j < tb .n → r < p .rank j → (r′ < p′ .rank j) × (p .len j ≤ p′ .len j)) →
+    longest tb p r ≤ longest tb p′ r′
+longest-le tb p p′ r r′ h =
+    longest-cases tb p r (λ e. omega arith)
+    (λ j l below e. let x = h j l below in omega (arith, x .1, longest-ge tb p′ r′ j l (x .0)))
+
 -- the blocking and the rows of U, none of them below r, ask for no more than all the rows
 pub room : (tb : Table) (p : Plan) (r : ℕ) (U : ℕ → Bool) → Positive tb →
     ((j : ℕ) → j < tb .n → r < p .rank j → (U j ≡ false) × (p .len j ≤ tb .C j)) →
@@ -60,15 +65,10 @@ room tb p r U pos out t h =
     longest-cases tb p r
     (λ e. omega (arith, all, blocking-is tb p r))
     (λ j l below e.
-    omega (
-      arith,
-      blocking-is tb p r,
-      out j l below .1,
-      load-sub tb before U (without every-row j)
-          (λ k _ u. without-intro every-row j k (λ q. not-both (U k) (ap U q ∙ out j l below .0) u) refl) t,
-      load-without tb before every-row j t l refl,
-      run-asked tb pos j t l h,
-    ))
+    let o = out j l below in
+    let others = load-sub tb before U (without every-row j)
+    (λ k _ u. without-intro every-row j k (λ q. not-both (U k) (ap U q ∙ o .0) u) refl) t in
+    omega (arith, o .1, blocking-is tb p r, load-without tb before every-row j t l refl, run-asked tb pos j t l h))
 
 -- every active period of a level of U exists, within the busy period
 pub level-active : (tb : Table) (P : ℕ → Bool) (b i : ℕ) → Positive tb → i < tb .n → (w : BusyWithin tb) →
@@ -92,57 +92,48 @@ module _ (tb : Table) (sound : Sound tb) (w : BusyWithin tb) (p : Plan) (wf : We
     abbrev level : ℕ → Bool
     level j = leb (p .rank j) (p .rank i)
 
+    pos : Positive tb
+    pos = sound-positive tb sound
+
     plan-side : (t : ℕ) → 1 ≤ t → active-side tb P B i t ≤ busy-side tb t
     plan-side t h =
-        let pos = sound-positive tb sound in
-        omega (
-          arith,
-          room tb p (p .rank i) level pos
-              (λ j g lower. (
-                by-bool (level j) (λ e. absurd (omega (arith, leb-true (p .rank j) (p .rank i) e))) (λ e. e),
-                wf .len-high j g,
-              )) t h,
-          active-side-is tb P B i t,
-          active-side-is tb (without level i) B i t,
-          active-side-level tb level B i t l (le-leb (p .rank i) (p .rank i) (omega arith)),
-          load-sub tb before P (without level i)
-              (λ j _ e.
-              let lt = ltb-true (p .rank j) (p .rank i) e in
-              without-intro level i j (λ q. omega (arith, ap (p .rank) q))
-              (le-leb (p .rank j) (p .rank i) (omega arith)))
-              t,
-        )
+        let r = p .rank i in
+        let out : (j : ℕ) → r < p .rank j → level j ≡ false =
+        λ j lower. by-bool (level j) (λ e. absurd (omega (arith, leb-true (p .rank j) r e))) (λ e. e) in
+        let all = room tb p r level pos (λ j g lower. (out j lower, wf .len-high j g)) t h in
+        let higher = load-sub tb before P (without level i)
+        (λ j _ e.
+        let lt = ltb-true (p .rank j) r e in
+        without-intro level i j (λ q. omega (arith, ap (p .rank) q)) (le-leb (p .rank j) r (omega arith))) t in
+        let own = active-side-level tb level B i t l (le-leb r r (omega arith)) in
+        omega (arith, active-side-is tb P B i t, active-side-is tb (without level i) B i t)
 
     -- "every L of every well-formed plan exists and is at most H"
     pub plan-active : (L : ℕ) × Active tb P B i L × (L ≤ horizon)
     plan-active =
-        let r = level-active tb P B i (sound-positive tb sound) l w plan-side in
+        let r = level-active tb P B i pos l w plan-side in
         (r .0, r .1, omega (arith, r .2, w .within))
 
     -- every response exists
     pub plan-response : (R : ℕ) × ResponseOf tb p i R
     plan-response =
         let a = plan-active in
-        response-exists tb P B i (p .len i) (sound-positive tb sound) l (wf .len-low i l) (wf .len-high i l) (a .0)
-        (a .1)
+        response-exists tb P B i (p .len i) pos l (wf .len-low i l) (wf .len-high i l) (a .0) (a .1)
 
     -- "and so is every R; R is never below C"
     pub plan-bounded : (R : ℕ) → ResponseOf tb p i R → Bounded tb p i R
     plan-bounded R x =
         let a = plan-active in
-        let pos = sound-positive tb sound in
+        let q = p .len i in
+        let low = wf .len-low i l in
+        let high = wf .len-high i l in
+        let same = least-unique (x .active) (a .1) in
         record {
           period = a .0;
           active = a .1;
           within = a .2;
-          low = response-low tb P B i (p .len i) pos l (wf .len-low i l) (wf .len-high i l) R x;
-          high =
-              omega (
-                arith,
-                response-high tb P B i (p .len i) pos l (wf .len-low i l) (wf .len-high i l) R x,
-                least-unique (x .active) (a .1),
-                a .2,
-              );
+          low = response-low tb P B i q pos l low high R x;
+          high = omega (arith, response-high tb P B i q pos l low high R x, a .2);
         }
 
 -- Two plans with the same ranks and lengths in the rows of the table have the same responses.
@@ -150,29 +141,17 @@ module _ (tb : Table) (p p′ : Plan) (same : (j : ℕ) → j < tb .n → (p .ra
   where
     longest-same : (r : ℕ) → longest tb p r ≡ longest tb p′ r
     longest-same r =
-        let up : longest tb p r ≤ longest tb p′ r =
-        longest-cases tb p r (λ e. omega arith) (λ j l h e. omega
-        (arith, same j l, longest-ge tb p′ r j l (omega (arith, same j l)))) in
-        let down : longest tb p′ r ≤ longest tb p r =
-        longest-cases tb p′ r (λ e. omega arith)
-        (λ j l h e. omega (arith, same j l, longest-ge tb p r j l (omega (arith, same j l)))) in
+        let up = longest-le tb p p′ r r (λ j l h. (omega (arith, same j l), omega (arith, same j l))) in
+        let down = longest-le tb p′ p r r (λ j l h. (omega (arith, same j l), omega (arith, same j l))) in
         omega arith
 
     pub plan-alike : (i R : ℕ) → Positive tb → i < tb .n → 1 ≤ p .len i → p .len i ≤ tb .C i → ResponseOf tb p i R →
         ResponseOf tb p′ i R
     plan-alike i R pos l low high x =
-        let rank = same i l .0 in
-        let b = blocking-is tb p (p .rank i) ∙ ap pred (longest-same (p .rank i))
-        ∙ sym (blocking-is tb p′ (p .rank i)) in
-        subst (λ q. Response tb (above p′ (p′ .rank i)) (blocking tb p′ (p′ .rank i)) i q R) (same i l .1)
-        (subst (λ r. Response tb (above p′ r) (blocking tb p′ r) i (p .len i) R) rank
-        (response-alike tb (above p (p .rank i)) (above p′ (p .rank i)) (blocking tb p (p .rank i))
-        (blocking tb p′ (p .rank i)) i (p .len i) R pos l
-        low high
-        (λ t _. omega (
-          arith,
-          b,
-          load-ext tb before (above p (p .rank i)) (above p′ (p .rank i))
-              (λ j g. ap (λ k. ltb k (p .rank i)) (same j g .0)) t,
-        ))
-        x))
+        let r = p .rank i in
+        let b : blocking tb p r ≡ blocking tb p′ r =
+        omega (arith, blocking-is tb p r, blocking-is tb p′ r, longest-same r) in
+        let load = load-ext tb before (above p r) (above p′ r) (λ j g. ap (λ k. ltb k r) (same j g .0)) in
+        rw (← same i l .0, ← same i l .1)
+        (response-alike tb (above p r) (above p′ r) (blocking tb p r) (blocking tb p′ r) i (p .len i) R pos l low high
+        (λ t _. omega (arith, load t)) x)

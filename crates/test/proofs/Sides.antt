@@ -28,14 +28,8 @@ module _ (tb : Table) (P : ℕ → Bool) (b i : ℕ) where
 
   pub active-side-mono : Mono (active-side tb P b i)
   active-side-mono x y h =
-      omega (
-        arith,
-        active-side-is x,
-        active-side-is y,
-        mul-le-mul-right (tb .C i) (up-mono (tb .T i) h),
-        load-mono tb P
-            x y h,
-      )
+      let own = mul-le-mul-right (tb .C i) (up-mono (tb .T i) h) in
+      omega (arith, active-side-is x, active-side-is y, load-mono tb P x y h)
 
   pub start-side-mono : (q k : ℕ) → Mono (start-side tb P b i upto q k)
   start-side-mono q k x y h = omega (arith, start-side-is q k x, start-side-is q k y, load-upto-mono tb P x y h)
@@ -46,5 +40,5 @@ module _ (tb : Table) (P : ℕ → Bool) (b i : ℕ) where
 -- over the rows of U but row i: the level's load is the same for every row of U
 pub active-side-level : (tb : Table) (U : ℕ → Bool) (b i t : ℕ) → i < tb .n → U i ≡ true →
     active-side tb (without U i) b i t ≡ b + load before tb U t
-active-side-level tb U b i t l e = omega
-    (arith, active-side-is tb (without U i) b i t, load-without tb before U i t l e)
+active-side-level tb U b i t l e =
+    omega (arith, active-side-is tb (without U i) b i t, load-without tb before U i t l e)

@@ -31,11 +31,6 @@ module _ (tb : Table) (P : ℕ → Bool) (b i : ℕ) (pos : Positive tb) (l : i 
     pub start-low : (k s : ℕ) → 1 ≤ k → Start tb P b i q k s → k * tb .C i ≤ s + q
     start-low k s h st = omega (arith, st .holds, start-side-whole tb P b i q k s h most)
 
-    -- under a start the right side raises
-    pub start-below : (k s u : ℕ) → Start tb P b i q k s → u < s → u < start-side tb P b i upto q k u
-    start-below k s u st g =
-        least-below (start-side tb P b i upto q k) (start-side-mono tb P b i q k) 0 (omega arith) u st (omega arith) g
-
     -- what the right side does not raise is no lower than the start
     pub start-prefix : (k s u : ℕ) → Start tb P b i q k s → start-side tb P b i upto q k u ≤ u → s ≤ u
     start-prefix k s u st h =
@@ -46,42 +41,23 @@ module _ (tb : Table) (P : ℕ → Bool) (b i : ℕ) (pos : Positive tb) (l : i 
     start-next k s s′ h st st′ =
         let c = tb .C i in
         let w = start-side-whole tb P b i q (suc k) s′ (omega arith) most in
-        let low : c ≤ s′ = omega (arith, st′ .holds, mul-le-mul-right c h) in
-        let r = start-prefix k s (s′ - c) st
-        (omega (
-          arith,
-          st′ .holds,
-          start-side-whole tb P b i q k (s′ - c) h most,
-          load-upto-mono tb P (s′ - c) s′ (omega arith),
-        )) in
-        omega arith
+        let low : c ≤ s′ = omega (arith, mul-le-mul-right c h) in
+        let rises = load-upto-mono tb P (s′ - c) s′ (omega arith) in
+        omega (arith, start-prefix k s (s′ - c) st (omega (arith, start-side-whole tb P b i q k (s′ - c) h most)))
 
     module _ (L : ℕ) (a : Active tb P b i L) where
-      -- the active period less the length is no lower than the start of any of its jobs
-      start-fits : (k : ℕ) → 1 ≤ k → k ≤ jobs tb P b i L → (q ≤ L) × (start-side tb P b i upto q k (L - q) ≤ L - q)
-      start-fits k h g =
-          let c = tb .C i in
-          let e = active-side-is tb P b i L in
-          let one = mul-le-mul-right c (jobs-some L a) in
-          let fits : q ≤ L = omega (arith, a .holds) in (
-            fits,
-            omega (
-              arith,
-              a .holds,
-              start-side-whole tb P b i q k (L - q) h most,
-              mul-le-mul-right c g,
-              load-upto tb pos P (L - q),
-              load-mono tb P (suc (L - q)) L (omega arith),
-            ),
-          )
-
       -- every job of the active period has a start, and finishes within it
       pub start-exists : (k : ℕ) → 1 ≤ k → k ≤ jobs tb P b i L → (s : ℕ) × Start tb P b i q k s × (s + q ≤ L)
       start-exists k h g =
-          let f = start-fits k h g in
+          let c = tb .C i in
+          let all = active-side-is tb P b i L in
+          let one = mul-le-mul-right c (jobs-some L a) in
+          let fits : q ≤ L = omega arith in
+          let rises = load-mono tb P (suc (L - q)) L (omega arith) in
+          let asks = start-side-whole tb P b i q k (L - q) h most in
           let r = least-bound (start-side tb P b i upto q k) (start-side-mono tb P b i q k) 0 (omega arith) (L - q)
-          (omega arith) (f .1) in
-          (r .0, r .1, omega (arith, r .2, f .0))
+          (omega arith) (omega (arith, mul-le-mul-right c g, load-upto tb pos P (L - q))) in
+          (r .0, r .1, omega (arith, r .2))
 
       pub finish-high : (k s : ℕ) → 1 ≤ k → k ≤ jobs tb P b i L → Start tb P b i q k s → s + q ≤ L
       finish-high k s h g st = let r = start-exists k h g in omega (arith, r .2, least-unique st (r .1))
@@ -94,17 +70,12 @@ module _ (tb : Table) (P : ℕ → Bool) (b i : ℕ) (pos : Positive tb) (l : i 
           let w = start-side-whole tb P b i q (suc k) s (omega arith) most in
           let asks : (u : ℕ) → u ≤ t → 1 ≤ u → u ≤ suc s → u < b + k * tb .C i + load upto tb P s =
           λ u h one le.
-          omega (
-            arith,
-            active-below L u a one (omega arith),
-            active-side-is tb P b i u,
-            mul-le-mul-right (tb .C i) (up-le u k (pos .T i l) h),
-            load-upto tb pos P s,
-            load-mono tb P u (suc s) le,
-          ) in
+          let own = mul-le-mul-right (tb .C i) (up-le u k (pos .T i l) h) in
+          let rises = load-mono tb P u (suc s) le in
+          omega (arith, active-below L u a one (omega arith), active-side-is tb P b i u, load-upto tb pos P s) in
           by-le (suc s) t
-          (λ h. absurd (omega (arith, asks (suc s) h (omega arith) (omega arith), st .holds)))
+          (λ h. absurd (omega (arith, asks (suc s) h (omega arith) (omega arith))))
           (λ h.
           by-eq t 0
           (λ z. omega (arith, start-low (suc k) s (omega arith) st))
-          (λ z. omega (arith, asks t (omega arith) (omega arith) (omega arith), st .holds)))
+          (λ z. omega (arith, asks t (omega arith) (omega arith) (omega arith))))

@@ -1,3 +1,3 @@
--- The definitions of the crate `response`.
+-- The definitions of the crate `test`.
 pub mod Test
 pub mod Answers
