@@ -6,34 +6,29 @@ use native.Mathlib.Omega.{arith}
 use borrow.Author.Tests.{le-leb, lt-leb, lt-ltb, le-ltb}
 use Rattle.counting.specs.Sum.{without}
 use Rattle.counting.proofs.Cases.{by-le, by-eq}
-use Rattle.counting.proofs.Sum.{without-same, without-other}
 use Rattle.tables.specs.Table.{Table}
 use Rattle.tables.specs.Plan.{Plan, WellFormed, cap}
 use Rattle.test.specs.Test.{before, load, Response, above, longest, blocking, RowPasses, Passes}
 use Rattle.test.proofs.Load.{Positive, load-ext}
-use Rattle.test.proofs.Plans.{blocking-is, longest-ge, longest-cases}
-use Rattle.choice.specs.Choice.{unplaced, Fits, TakesRank, Filled, Chosen, Stopped}
+use Rattle.test.proofs.Plans.{blocking-is, longest-ge, longest-le, longest-cases}
+use Rattle.choice.specs.Choice.{unplaced, Fits, Filled, Chosen, Stopped}
 use Rattle.choice.proofs.Level.{fits-compare, takes-least}
-use Rattle.choice.proofs.Ranked.{unplaced-next, ranked-well, held}
-use Rattle.choice.proofs.Filled.{filled-ranked, filled-more, chosen-low}
+use Rattle.choice.proofs.Ranked.{is-without, unplaced-next, ranked-well, held}
+use Rattle.choice.proofs.Filled.{filled-takes, filled-more, chosen-low}
 use Rattle.choice.proofs.Exchange.{Peels, peels-compare, exchange}
 
 -- where a rank is held once, the rows above its row are the other rows not placed
 pub above-others : (p : Plan) (y j : ℕ) → (p .rank j ≡ p .rank y → j ≡ y) →
     above p (p .rank y) j ≡ without (unplaced p (p .rank y)) y j
 above-others p y j once =
-    by-eq j y
-    (λ e. ap (above p (p .rank y)) e ∙ le-ltb (p .rank y) (p .rank y) (omega arith)
-    ∙ sym (ap (without (unplaced p (p .rank y)) y) e ∙ without-same (unplaced p (p .rank y)) y))
+    let a = p .rank j in
+    let r = p .rank y in
+    is-without (unplaced p r) y j _
+    (λ e. le-ltb a r (omega (arith, ap (p .rank) e)))
     (λ e.
-    by-le (p .rank y) (p .rank j)
-    (λ h.
-    by-eq (p .rank j) (p .rank y)
-    (λ x. absurd (e (once x)))
-    (λ x. le-ltb (p .rank j) (p .rank y) h ∙ sym
-    (without-other (unplaced p (p .rank y)) y j e ∙ lt-leb (p .rank j) (p .rank y) (omega arith))))
-    (λ h. lt-ltb (p .rank j) (p .rank y) h ∙ sym
-    (without-other (unplaced p (p .rank y)) y j e ∙ le-leb (p .rank j) (p .rank y) (omega arith))))
+    by-le r a
+    (λ h. by-eq a r (λ x. absurd (e (once x))) (λ x. le-ltb a r h ∙ sym (lt-leb a r (omega arith))))
+    (λ h. lt-ltb a r h ∙ sym (le-leb a r (omega arith))))
 
 module _ (tb : Table) (pos : Positive tb) (p : Plan) where
   module _ (y : ℕ) (l : y < tb .n) (low : 1 ≤ p .len y) (high : p .len y ≤ cap tb y)
@@ -105,39 +100,37 @@ module _ (tb : Table) (pos : Positive tb) (p : Plan) where
             mem = le-leb (p .rank y) s (omega (arith, k .2));
             low = wf .len-low y l;
             high = wf .len-high y l;
-            fits =
-                subst (λ b. Fits tb (without (unplaced p s) y) b y (p .len y)) (blocking-is tb p s)
-                (subst (λ x. Fits tb (without (unplaced p x) y) (blocking tb p x) y (p .len y)) (k .2) fits);
+            fits = rw (k .2, blocking-is tb p s) at fits;
           },
           peels-compare tb pos r (without (unplaced p s) y) (unplaced p r) (max (longest tb p s) (p .len y))
               (longest tb p r)
               (λ j g. sym (unplaced-next p r y j (k .2) (λ e. once j g (e ∙ sym (k .2)))))
-              (omega (arith, longest-ge tb p r y l (omega (arith, k .2)), longest-next r))
+              (omega (
+                arith,
+                longest-ge tb p r y l (omega (arith, k .2)),
+                longest-le tb p p s r (λ j g lt. (omega arith, omega arith)),
+              ))
               (peels-of r (omega arith)),
         )
-      where
-        longest-next : (r : ℕ) → longest tb p (suc r) ≤ longest tb p r
-        longest-next r = longest-cases tb p (suc r) (λ e. omega arith)
-            (λ j g lt e. omega (arith, longest-ge tb p r j g (omega arith)))
 
 -- what is left to a plan that is filled as the choice says can be peeled, where any plan passes
 module _ (tb : Table) (pos : Positive tb) (p : Plan) (o : Plan) (wf : WellFormed tb o) (ok : Passes tb o) where
   left-peels : (e r : ℕ) → r + e ≡ tb .n → Filled tb p r → Peels tb r (unplaced p r) (longest tb p r)
   left-peels zero r h f =
       let n : r ≡ tb .n = omega arith in
-      subst (λ r. Peels tb r (unplaced p r) (longest tb p r)) (sym n)
+      rw n
       (peels-compare tb pos (tb .n) (unplaced p (tb .n)) (unplaced o (tb .n)) (longest tb p (tb .n))
       (longest tb o (tb .n))
       (λ j l. le-leb (p .rank j) (tb .n) (f .high j l) ∙ sym (le-leb (o .rank j) (tb .n) (wf .rank-high j l)))
-      (longest-cases tb p (tb .n) (λ e. omega arith) (λ j l lt _. absurd (omega (arith, f .high j l))))
+      (longest-le tb p o (tb .n) (tb .n) (λ j l lt. absurd (omega (arith, f .high j l))))
       (peels-of tb pos o wf ok (tb .n) (omega arith)))
   left-peels (suc e) r h f =
       let s = suc r in
       let up : s ≤ tb .n = omega arith in
-      let k = held tb p r (filled-ranked f) r (omega arith) up in
+      let k = filled-takes r f (omega arith) up in
       let y = k .0 in
       let q = p .len y in
-      let t = subst (λ x. TakesRank tb p x y q) (k .2) (f .takes y (k .1) (omega (arith, k .2))) in
+      let t = k .3 in
       let b = blocking-is tb p s in
       peels-compare tb pos r (unplaced p r) (without (unplaced p s) y) (longest tb p r) (max (longest tb p s) q)
       (λ j g. unplaced-next p r y j (k .2) (λ e. f .once j y g (k .1) (omega arith) (e ∙ sym (k .2))))
@@ -145,19 +138,19 @@ module _ (tb : Table) (pos : Positive tb) (p : Plan) (o : Plan) (wf : WellFormed
       (λ e. omega arith)
       (λ j l lt e.
       by-eq (p .rank j) s
-      (λ x. omega (arith, e, ap (p .len) (f .once j y l (k .1) lt (x ∙ sym (k .2)))))
-      (λ x. omega (arith, e, longest-ge tb p s j l (omega arith)))))
+      (λ x. omega (arith, ap (p .len) (f .once j y l (k .1) lt (x ∙ sym (k .2)))))
+      (λ x. omega (arith, longest-ge tb p s j l (omega arith)))))
       (exchange tb pos r (unplaced p s) (longest tb p s) y q
       (record {
         row = k .1;
         mem = t .try;
         low = t .shortest .low;
         high = t .shortest .holds .0;
-        fits = subst (λ b. Fits tb (without (unplaced p s) y) b y q) b (t .shortest .holds .1);
+        fits = rw b at (t .shortest .holds .1);
       })
       (λ x l S.
       takes-least tb (unplaced p s) (blocking tb p s) (unplaced p s) y q x l pos t (S .row) (S .mem) (S .low) (S .high)
-      (subst (λ b. Fits tb (without (unplaced p s) x) b x l) (sym b) (S .fits)) .0)
+      (rw b (S .fits)) .0)
       (left-peels e s (omega arith) (filled-more s f (omega arith) up)))
 
 -- the choice stops only where no well-formed plan passes
@@ -170,6 +163,4 @@ stopped-no-plan tb pos s o wf ok =
     subst (λ k. Peels tb k (unplaced p (s .rank)) (longest tb p (s .rank))) (sym e)
     (left-peels tb pos p o wf ok (tb .n - s .rank) (s .rank) (omega (arith, s .high)) (s .filled)) in
     let S = F .2 in
-    s .none (F .0) (F .1) (S .row) (S .mem) (S .low) (S .high)
-    (subst (λ b. Fits tb (without (unplaced p (s .rank)) (F .0)) b (F .0) (F .1)) (sym (blocking-is tb p (s .rank)))
-    (S .fits))
+    s .none (F .0) (F .1) (S .row) (S .mem) (S .low) (S .high) (rw (blocking-is tb p (s .rank)) (S .fits))

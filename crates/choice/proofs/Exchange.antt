@@ -1,6 +1,6 @@
 -- The exchange: rows peeled off one after another, each lowest in its turn, and the row that takes a rank among them.
 use Prim.Native.Nat.{ℕ, zero, suc, pred, _+_, _≤_, _<_, max}
-use mathlib.Core.Path.{_≡_, refl, ap, sym, _∙_, subst}
+use mathlib.Core.Path.{_≡_, refl, ap, sym, _∙_}
 use mathlib.Core.Bool.{Bool, true, _&&_, not}
 use native.Mathlib.Omega.{arith}
 use lib.Dec.{eqb}
@@ -33,14 +33,8 @@ module _ (tb : Table) (pos : Positive tb) where
       ((t : ℕ) → 1 ≤ t → pred m + load before tb (without U x) t ≤ pred m′ + load before tb (without U′ x) t) →
       Step tb U m x q
   step-compare U U′ m m′ x q s e le =
-      record {
-        row = s .row;
-        mem = e;
-        low = s .low;
-        high = s .high;
-        fits = fits-compare tb pos x (s .row) (without U x) (without U′ x) (pred m) (pred m′) q (s .low) (s .high) le
-            (s .fits);
-      }
+      let f = fits-compare tb pos x (s .row) (without U x) (without U′ x) (pred m) (pred m′) q (s .low) (s .high) le in
+      record { row = s .row; mem = e; low = s .low; high = s .high; fits = f (s .fits) }
 
   -- the same rows below n, and no longer a length below
   pub peels-compare : (r : ℕ) (U U′ : ℕ → Bool) (m m′ : ℕ) → ((j : ℕ) → j < tb .n → U j ≡ U′ j) → m ≤ m′ →
@@ -58,60 +52,31 @@ module _ (tb : Table) (pos : Positive tb) where
         peels-compare r (without U y) (without U′ y) (max m q) (max m′ q) less (omega arith) (F .3),
       )
 
-  -- a row taken out
-  peels-without : (r : ℕ) (U : ℕ → Bool) (m y : ℕ) → y < tb .n → U y ≡ true → Peels tb (suc r) U m →
-      Peels tb r (without U y) m
-  peels-without zero U m y l e F = tt
-  peels-without (suc r) U m y l e F =
+  -- a row taken out, where the longest length grows by no more than that row's C and no first row is left shorter
+  peels-without : (r : ℕ) (U : ℕ → Bool) (m m′ y : ℕ) → y < tb .n → U y ≡ true → pred m′ ≤ pred m + tb .C y →
+      ((x q : ℕ) → Step tb U m x q → m′ ≤ max m q) → Peels tb (suc r) U m → Peels tb r (without U y) m′
+  peels-without zero U m m′ y l e grows short F = tt
+  peels-without (suc r) U m m′ y l e grows short F =
       let x = F .0 in
       let q = F .1 in
+      let le = short x q (F .2) in
       by-eq x y
-      (λ g.
-      subst (λ z. Peels tb (suc r) (without U z) m) g
-      (peels-compare (suc r) (without U x) (without U x) m (max m q) (λ _ _. refl) (omega arith) (F .3)))
+      (λ g. rw g at (peels-compare (suc r) (without U x) (without U x) m′ (max m q) (λ _ _. refl) le (F .3)))
       (λ g.
       let ex = without-other U y x g in
       let ey : without U x y ≡ true = without-other U x y (λ z. g (sym z)) ∙ e in (
         x,
         q,
-        step-compare (without U y) U m m x q (F .2) (ex ∙ F .2 .mem)
-            (λ t _.
-            omega (
-              arith,
-              load-without tb before (without U x) y t l ey,
-              ap (λ Q. load before tb Q t) (without-comm U x y),
-            )),
-        subst (λ Q. Peels tb r Q (max m q)) (without-comm U x y)
-            (peels-without r (without U x) (max m q) y l ey (F .3)),
+        step-compare (without U y) U m′ m x q (F .2) (ex ∙ F .2 .mem)
+            (λ t h.
+            let out = load-without tb before (without U x) y t l ey in
+            omega (arith, ap (λ Q. load before tb Q t) (without-comm U x y), run-asked tb pos y t l h)),
+        rw (without-comm U x y) at
+            (peels-without r (without U x) (max m q) (max m′ q) y l ey (omega arith) (λ _ _ _. omega arith) (F .3)),
       ))
 
   -- a row that stands lowest, with a length that no row stands lowest with a shorter than, may be the one that does
   pub exchange : (r : ℕ) (U : ℕ → Bool) (m y p : ℕ) → Step tb U m y p → ((x q : ℕ) → Step tb U m x q → p ≤ q) →
       Peels tb (suc r) U m → Peels tb r (without U y) (max m p)
-  exchange zero U m y p S best F = tt
-  exchange (suc r) U m y p S best F =
-      let x = F .0 in
-      let q = F .1 in
-      let pq = best x q (F .2) in
-      by-eq x y
-      (λ g.
-      subst (λ z. Peels tb (suc r) (without U z) (max m p)) g
-      (peels-compare (suc r) (without U x) (without U x) (max m p) (max m q) (λ _ _. refl) (omega arith) (F .3)))
-      (λ g.
-      let ex = without-other U y x g in
-      let ey : without U x y ≡ true = without-other U x y (λ z. g (sym z)) ∙ S .mem in (
-        x,
-        q,
-        step-compare (without U y) U (max m p) m x q (F .2) (ex ∙ F .2 .mem)
-            (λ t h.
-            omega (
-              arith,
-              load-without tb before (without U x) y t (S .row) ey,
-              ap (λ Q. load before tb Q t) (without-comm U x y),
-              S .high,
-              run-asked tb pos y t (S .row) h,
-            )),
-        subst (λ Q. Peels tb r Q (max (max m p) q)) (without-comm U x y)
-            (subst (λ k. Peels tb r (without (without U x) y) k) (omega arith)
-            (peels-without r (without U x) (max m q) y (S .row) ey (F .3))),
-      ))
+  exchange r U m y p S best =
+      peels-without r U m (max m p) y (S .row) (S .mem) (omega (arith, S .high)) (λ x q s. omega (arith, best x q s))

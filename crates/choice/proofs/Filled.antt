@@ -1,7 +1,7 @@
 -- Laws of plans filled from n down to a rank: two of them agree on the rows placed, and choice and stop exclude each
 -- other.
 use Prim.Native.Nat.{ℕ, zero, suc, _+_, _-_, _≤_, _<_}
-use mathlib.Core.Path.{_≡_, ap, sym, _∙_, subst}
+use mathlib.Core.Path.{_≡_, ap, sym, _∙_}
 use mathlib.Core.Logic.{_⊎_, inl, inr, ⊎-elim}
 use native.Mathlib.Omega.{arith}
 use lib.Dec.{leb}
@@ -12,7 +12,7 @@ use Rattle.tables.specs.Table.{Table}
 use Rattle.tables.specs.Plan.{Plan}
 use Rattle.test.specs.Test.{longest, blocking}
 use Rattle.test.proofs.Load.{Positive}
-use Rattle.test.proofs.Plans.{blocking-is, longest-ge, longest-cases}
+use Rattle.test.proofs.Plans.{blocking-is, longest-le}
 use Rattle.choice.specs.Choice.{unplaced, TakesRank, NoneFitsRank, Filled, Chosen, Stopped}
 use Rattle.choice.proofs.Level.{Alike, fits-alike, takes-alike, takes-unique}
 use Rattle.counting.proofs.Sum.{count-ext}
@@ -41,18 +41,16 @@ agree-sym tb p p′ s a j l = ⊎-elim (λ x. inl (x .1, x .0)) (λ x. inr (sym 
 
 longest-agree : (tb : Table) (p p′ : Plan) (s : ℕ) → Agree tb p p′ s → longest tb p s ≤ longest tb p′ s
 longest-agree tb p p′ s a =
-    longest-cases tb p s
-    (λ e. omega arith)
-    (λ j l h e.
-    ⊎-elim
-    (λ x. absurd (omega (arith, x .0)))
-    (λ x. omega (arith, x .1, longest-ge tb p′ s j l (omega (arith, x .0))))
-    (a j l))
+    longest-le tb p p′ s s
+    (λ j l h.
+    ⊎-elim (λ x. absurd (omega (arith, x .0))) (λ x. (omega (arith, x .0), omega (arith, x .1))) (a j l))
 
 -- then their levels are alike
 pub agree-alike : (tb : Table) (p p′ : Plan) (s : ℕ) → Agree tb p p′ s →
     Alike tb (unplaced p s) (unplaced p′ s) (blocking tb p s) (blocking tb p′ s)
 agree-alike tb p p′ s a =
+    let up = longest-agree tb p p′ s a in
+    let down = longest-agree tb p′ p s (agree-sym tb p p′ s a) in
     record {
       rows =
           λ j l.
@@ -60,15 +58,15 @@ agree-alike tb p p′ s a =
           (λ x. le-leb (p .rank j) s (x .0) ∙ sym (le-leb (p′ .rank j) s (x .1)))
           (λ x. ap (λ r. leb r s) (x .0))
           (a j l);
-      blocking =
-          omega (
-            arith,
-            blocking-is tb p s,
-            blocking-is tb p′ s,
-            longest-agree tb p p′ s a,
-            longest-agree tb p′ p s (agree-sym tb p p′ s a),
-          );
+      blocking = omega (arith, blocking-is tb p s, blocking-is tb p′ s);
     }
+
+-- the row that holds a rank takes it
+pub filled-takes : {tb : Table} {p : Plan} {r : ℕ} (s : ℕ) → Filled tb p r → r ≤ s → suc s ≤ tb .n →
+    (y : ℕ) × (y < tb .n) × (p .rank y ≡ suc s) × TakesRank tb p (suc s) y (p .len y)
+filled-takes {tb} {p} {r} s f h up =
+    let k = held tb p r (filled-ranked f) s h up in
+    (k .0, k .1, k .2, rw (k .2) at (f .takes (k .0) (k .1) (omega (arith, k .2))))
 
 -- "Ranks are filled from n down": whatever plans are filled to rank r, they agree on the rows placed
 module _ (tb : Table) (pos : Positive tb) (p p′ : Plan) where
@@ -78,16 +76,13 @@ module _ (tb : Table) (pos : Positive tb) (p p′ : Plan) where
       let s = suc r in
       let up : s ≤ tb .n = omega arith in
       let a = agree-from e s (omega arith) (filled-more s f (omega arith) up) (filled-more s f′ (omega arith) up) in
-      let h = held tb p r (filled-ranked f) r (omega arith) up in
-      let h′ = held tb p′ r (filled-ranked f′) r (omega arith) up in
+      let h = filled-takes r f (omega arith) up in
+      let h′ = filled-takes r f′ (omega arith) up in
       let y = h .0 in
       let y′ = h′ .0 in
-      let t = subst (λ x. TakesRank tb p x y (p .len y)) (h .2) (f .takes y (h .1) (omega (arith, h .2))) in
-      let t′ = subst (λ x. TakesRank tb p′ x y′ (p′ .len y′)) (h′ .2) (f′ .takes y′ (h′ .1) (omega (arith, h′ .2))) in
-      let u =
-      takes-unique tb (unplaced p′ s) (blocking tb p′ s) (unplaced p′ s) y (p .len y) y′ (p′ .len y′)
+      let u = takes-unique tb (unplaced p′ s) (blocking tb p′ s) (unplaced p′ s) y (p .len y) y′ (p′ .len y′)
       (takes-alike tb (unplaced p s) (unplaced p′ s) (blocking tb p s) (blocking tb p′ s) y (p .len y) pos
-      (agree-alike tb p p′ s a) t) t′ in
+      (agree-alike tb p p′ s a) (h .3)) (h′ .3) in
       by-eq j y
       (λ x. inr (
         ap (p .rank) x ∙ h .2 ∙ sym (ap (p′ .rank) (x ∙ u .0) ∙ h′ .2),
@@ -125,17 +120,15 @@ chosen-unique tb p p′ pos f f′ j l =
 pub none-past : (tb : Table) (p p′ : Plan) (r s : ℕ) → Positive tb → s ≤ tb .n → Filled tb p s → NoneFitsRank tb p s →
     Filled tb p′ r → ¬ (r < s)
 none-past tb p p′ r zero pos h f none f′ lt = omega arith
-none-past tb p p′ r (suc s) pos h f none f′ lt =
+none-past tb p p′ r (suc s) pos up f none f′ lt =
     let k = suc s in
-    let y = held tb p′ r (filled-ranked f′) s (omega arith) h in
-    let t = subst (λ x. TakesRank tb p′ x (y .0) (p′ .len (y .0))) (y .2)
-    (f′ .takes (y .0) (y .1) (omega (arith, y .2))) in
-    let a = agree-alike tb p′ p k (filled-agree tb pos p′ p k h (filled-more k f′ (omega arith) h) f) in
-    let q = p′ .len (y .0) in
-    none (y .0) q (y .1) (sym (a .rows (y .0) (y .1)) ∙ t .try) (t .shortest .low) (t .shortest .holds .0)
-    (fits-alike tb pos (unplaced p′ k) (unplaced p k) (blocking tb p′ k) (blocking tb p k) a (y .0) q (y .1)
-    (t .shortest .low)
-    (t .shortest .holds .0) (t .shortest .holds .1))
+    let h = filled-takes s f′ (omega arith) up in
+    let y = h .0 in
+    let t = h .3 in
+    let a = agree-alike tb p′ p k (filled-agree tb pos p′ p k up (filled-more k f′ (omega arith) up) f) in
+    none y (p′ .len y) (h .1) (sym (a .rows y (h .1)) ∙ t .try) (t .shortest .low) (t .shortest .holds .0)
+    (fits-alike tb pos (unplaced p′ k) (unplaced p k) (blocking tb p′ k) (blocking tb p k) a y (p′ .len y) (h .1)
+    (t .shortest .low) (t .shortest .holds .0) (t .shortest .holds .1))
 
 -- the choice does not both end and stop
 pub chosen-not-stopped : (tb : Table) (p : Plan) → Positive tb → Chosen tb p → Stopped tb → ⊥
@@ -166,8 +159,7 @@ filled-same tb p p′ r pos same f =
       takes =
           λ y l h.
           let s = p .rank y in
-          let t =
-          takes-alike tb (unplaced p s) (unplaced p′ s) (blocking tb p s) (blocking tb p′ s) y (p .len y) pos
+          let t = takes-alike tb (unplaced p s) (unplaced p′ s) (blocking tb p s) (blocking tb p′ s) y (p .len y) pos
           (agree-alike tb p p′ s (same-agree tb p p′ s same)) (f .takes y l (omega (arith, same y l .0))) in
-          subst (λ x. TakesRank tb p′ x y (p′ .len y)) (same y l .0) (subst (TakesRank tb p′ s y) (same y l .1) t);
+          rw (same y l .0, same y l .1) at t;
     }

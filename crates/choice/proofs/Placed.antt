@@ -1,6 +1,6 @@
 -- A plan filled one rank further by the row that takes it, from a plan that has placed nothing.
 use Prim.Native.Nat.{ℕ, suc, _-_, max, _≤_, _<_}
-use mathlib.Core.Path.{_≡_, ap, sym, _∙_, subst}
+use mathlib.Core.Path.{_≡_, ap, sym, _∙_}
 use mathlib.Core.Bool.{true}
 use mathlib.Core.Logic.{inl, inr}
 use native.Mathlib.Omega.{arith}
@@ -12,7 +12,7 @@ use Rattle.tables.specs.Table.{Table}
 use Rattle.tables.specs.Plan.{Plan}
 use Rattle.test.specs.Test.{longest, blocking}
 use Rattle.test.proofs.Load.{Positive}
-use Rattle.test.proofs.Plans.{blocking-is, longest-ge, longest-cases}
+use Rattle.test.proofs.Plans.{blocking-is, longest-ge, longest-le, longest-cases}
 use Rattle.choice.specs.Choice.{unplaced, TakesRank, Filled}
 use Rattle.choice.proofs.Level.{takes-alike}
 use Rattle.counting.proofs.Sum.{count-ext, count-le}
@@ -44,6 +44,11 @@ module _ (tb : Table) (pos : Positive tb) (p p′ : Plan) (r y q : ℕ) (f : Fil
   before-placed : p .rank y ≤ suc r
   before-placed = leb-true (p .rank y) (suc r) (t .try)
 
+  -- any other row with a rank greater than r had it before
+  higher-before : (j : ℕ) → j < tb .n → ¬ (j ≡ y) → r < p′ .rank j → suc r < p .rank j
+  higher-before j l e g =
+      by-eq (p .rank j) (suc r) (λ z. absurd (free j l z)) (λ z. omega (arith, h .others j l e .0))
+
   pub placed-agree : (s : ℕ) → suc r ≤ s → Agree tb p p′ s
   placed-agree s g j l =
       by-eq j y
@@ -68,23 +73,15 @@ module _ (tb : Table) (pos : Positive tb) (p p′ : Plan) (r y q : ℕ) (f : Fil
         takes =
             λ x l g.
             by-eq x y
-            (λ e. subst (λ z. TakesRank tb p′ (p′ .rank z) z (p′ .len z)) (sym e) mine)
+            (λ e. rw (e, h .rank, h .len) (placed-takes (suc r) y q (omega arith) t))
             (λ e.
             let o = h .others x l e in
-            let above : suc r < p .rank x = by-eq (p .rank x) (suc r) (λ z. absurd (free x l z))
-            (λ z. omega (arith, o .0)) in
-            subst (λ z. TakesRank tb p′ z x (p′ .len x)) (sym (o .0))
-            (subst (λ z. TakesRank tb p′ (p .rank x) x z) (sym (o .1))
-            (placed-takes (p .rank x) x (p .len x) (omega arith) (f .takes x l above))));
+            let above = higher-before x l e g in
+            rw (o .0, o .1) (placed-takes (p .rank x) x (p .len x) (omega arith) (f .takes x l above)));
       }
     where
       room : suc r ≤ tb .n
       room = omega (arith, f .left, count-le (unplaced p (suc r)) (tb .n))
-
-      mine : TakesRank tb p′ (p′ .rank y) y (p′ .len y)
-      mine =
-          subst (λ z. TakesRank tb p′ z y (p′ .len y)) (sym (h .rank))
-          (subst (λ z. TakesRank tb p′ (suc r) y z) (sym (h .len)) (placed-takes (suc r) y q (omega arith) t))
 
       once : (i j : ℕ) → i < tb .n → j < tb .n → r < p′ .rank i → p′ .rank i ≡ p′ .rank j → i ≡ j
       once i j a b c e =
@@ -95,55 +92,33 @@ module _ (tb : Table) (pos : Positive tb) (p p′ : Plan) (r y q : ℕ) (f : Fil
           (λ x.
           by-eq j y
           (λ w. absurd (free i a (sym (h .others i a x .0) ∙ e ∙ ap (p′ .rank) w ∙ h .rank)))
-          (λ w.
-          let oi = h .others i a x .0 in
-          let above : suc r < p .rank i = by-eq (p .rank i) (suc r) (λ z. absurd (free i a z)) (λ z. omega arith) in
-          f .once i j a b above (sym oi ∙ e ∙ h .others j b w .0)))
+          (λ w. f .once i j a b (higher-before i a x c) (sym (h .others i a x .0) ∙ e ∙ h .others j b w .0)))
 
       left : count (unplaced p′ r) (tb .n) ≡ r
       left =
           let u = unplaced p′ (suc r) in
-          omega (
-            arith,
-            f .left,
-            count-ext (unplaced p (suc r)) u (tb .n)
-                (agree-alike tb p p′ (suc r) (placed-agree (suc r) (omega arith)) .rows),
-            count-without u y (tb .n) (t .row) (le-leb (p′ .rank y) (suc r) (omega (arith, h .rank))),
-            count-ext (unplaced p′ r) (without u y) (tb .n)
-                (λ j l. unplaced-next p′ r y j (h .rank) (λ e. once j y l (t .row) (omega arith) (e ∙ sym (h .rank)))),
-          )
+          let before = count-ext (unplaced p (suc r)) u (tb .n)
+          (agree-alike tb p p′ (suc r) (placed-agree (suc r) (omega arith)) .rows) in
+          let after = count-ext (unplaced p′ r) (without u y) (tb .n)
+          (λ j l. unplaced-next p′ r y j (h .rank) (λ e. once j y l (t .row) (omega arith) (e ∙ sym (h .rank)))) in
+          let mine = count-without u y (tb .n) (t .row) (le-leb (p′ .rank y) (suc r) (omega (arith, h .rank))) in
+          omega (arith, f .left)
 
   -- the blocking of the rows placed grows to that of row y
   pub blocking-placed : blocking tb p′ r ≡ max (blocking tb p (suc r)) (q - 1)
   blocking-placed =
-      omega (
-        arith,
-        blocking-is tb p′ r,
-        blocking-is tb p (suc r),
-        t .shortest .low,
-        h .len,
-        longest-ge tb p′ r y (t .row) (omega (arith, h .rank)),
-        old,
-        new,
-      )
+      let own = longest-ge tb p′ r y (t .row) (omega (arith, h .rank)) in
+      let old = longest-le tb p p′ (suc r) r
+      (λ j l lt.
+      let o = h .others j l (λ x. omega (arith, ap (p .rank) x, before-placed)) in
+      (omega (arith, o .0), omega (arith, o .1))) in
+      omega (arith, blocking-is tb p′ r, blocking-is tb p (suc r), t .shortest .low, h .len, new)
     where
-      old : longest tb p (suc r) ≤ longest tb p′ r
-      old =
-          longest-cases tb p (suc r)
-          (λ e. omega arith)
-          (λ j l lt e.
-          let o = h .others j l (λ x. omega (arith, ap (p .rank) x, before-placed)) in
-          omega (arith, e, o .1, longest-ge tb p′ r j l (omega (arith, o .0))))
-
       new : longest tb p′ r ≤ max (longest tb p (suc r)) q
       new =
           longest-cases tb p′ r
           (λ e. omega arith)
           (λ j l lt e.
           by-eq j y
-          (λ x. omega (arith, e, h .len, ap (p′ .len) x))
-          (λ x.
-          let o = h .others j l x in
-          let above : suc r < p .rank j = by-eq (p .rank j) (suc r) (λ z. absurd (free j l z))
-          (λ z. omega (arith, o .0)) in
-          omega (arith, e, o .1, longest-ge tb p (suc r) j l above)))
+          (λ x. omega (arith, h .len, ap (p′ .len) x))
+          (λ x. omega (arith, h .others j l x .1, longest-ge tb p (suc r) j l (higher-before j l x lt))))

@@ -1,7 +1,7 @@
 -- Laws of ranks: where the ranks greater than r are held once each and r rows are left, every such rank has its row.
 use Prim.Native.Nat.{ℕ, zero, suc, _+_, _-_, _≤_, _<_}
 use mathlib.Core.Path.{_≡_, ap, sym, _∙_}
-use mathlib.Core.Bool.{Bool, true, not}
+use mathlib.Core.Bool.{Bool, true, false, not}
 use native.Mathlib.Omega.{arith}
 use lib.Dec.{eqb}
 use borrow.Author.Tests.{eqb-true, eq-eqb, le-leb, lt-leb}
@@ -32,97 +32,72 @@ holder p n s some none =
     some (r .0) (r .1) (by-bool (eqb (p .rank (r .0)) s) (λ t. eqb-true (p .rank (r .0)) s t)
     (λ f. not-both (other (r .0)) (r .2) (ap not f))))
 
+-- a test that fails at y and is that of U at every other number
+pub is-without : (U : ℕ → Bool) (y j : ℕ) (b : Bool) → (j ≡ y → b ≡ false) → (¬ (j ≡ y) → b ≡ U j) → b ≡ without U y j
+is-without U y j b same other =
+    by-eq j y
+    (λ e. same e ∙ sym (ap (without U y) e ∙ without-same U y))
+    (λ e. other e ∙ sym (without-other U y j e))
+
+-- a row of another rank than s + 1 is placed at rank s if it is at rank s + 1
+unplaced-other : (p : Plan) (s j : ℕ) → ¬ (p .rank j ≡ suc s) → unplaced p s j ≡ unplaced p (suc s) j
+unplaced-other p s j ne =
+    let a = p .rank j in
+    by-le a s
+    (λ h. le-leb a s h ∙ sym (le-leb a (suc s) (omega arith)))
+    (λ h. lt-leb a s h ∙ sym (lt-leb a (suc s) (omega arith)))
+
 -- the rows not placed once rank s + 1 is: those before, without its row
 pub unplaced-next : (p : Plan) (s y j : ℕ) → p .rank y ≡ suc s → (p .rank j ≡ suc s → j ≡ y) →
     unplaced p s j ≡ without (unplaced p (suc s)) y j
 unplaced-next p s y j e once =
-    by-eq j y
-    (λ q. lt-leb (p .rank j) s (omega (arith, ap (p .rank) q)) ∙ sym
-    (ap (without (unplaced p (suc s)) y) q ∙ without-same (unplaced p (suc s)) y))
-    (λ q.
-    by-le (p .rank j) s
-    (λ h. le-leb (p .rank j) s h ∙ sym (without-other (unplaced p (suc s)) y j q
-    ∙ le-leb (p .rank j) (suc s) (omega arith)))
-    (λ h.
-    by-eq (p .rank j) (suc s)
-    (λ x. absurd (q (once x)))
-    (λ x. lt-leb (p .rank j) s h ∙ sym (without-other (unplaced p (suc s)) y j q
-    ∙ lt-leb (p .rank j) (suc s) (omega arith)))))
+    is-without (unplaced p (suc s)) y j _
+    (λ q. lt-leb (p .rank j) s (omega (arith, ap (p .rank) q)))
+    (λ q. unplaced-other p s j (λ x. q (once x)))
 
 module _ (tb : Table) (p : Plan) (r : ℕ) (k : Ranked tb p r) where
   -- how many rows are not placed rises by one where the rank is held, and by none where it is not
   count-held : (s y : ℕ) → r ≤ s → y < tb .n → p .rank y ≡ suc s →
       count (unplaced p s) (tb .n) + 1 ≡ count (unplaced p (suc s)) (tb .n)
   count-held s y h l e =
-      omega (
-        arith,
-        count-without (unplaced p (suc s)) y (tb .n) l (le-leb (p .rank y) (suc s) (omega arith)),
-        count-ext (unplaced p s) (without (unplaced p (suc s)) y) (tb .n)
-            (λ j g. unplaced-next p s y j e (λ x. k .once j y g l (omega arith) (x ∙ sym e))),
-      )
+      let next = count-ext (unplaced p s) (without (unplaced p (suc s)) y) (tb .n)
+      (λ j g. unplaced-next p s y j e (λ x. k .once j y g l (omega arith) (x ∙ sym e))) in
+      omega (arith, count-without (unplaced p (suc s)) y (tb .n) l (le-leb (p .rank y) (suc s) (omega arith)))
 
   count-bare : (s : ℕ) → ((j : ℕ) → j < tb .n → ¬ (p .rank j ≡ suc s)) →
       count (unplaced p s) (tb .n) ≡ count (unplaced p (suc s)) (tb .n)
-  count-bare s none =
-      count-ext (unplaced p s) (unplaced p (suc s)) (tb .n)
-      (λ j l.
-      by-le (p .rank j) s
-      (λ h. le-leb (p .rank j) s h ∙ sym (le-leb (p .rank j) (suc s) (omega arith)))
-      (λ h.
-      by-eq (p .rank j) (suc s)
-      (λ x. absurd (none j l x))
-      (λ x. lt-leb (p .rank j) s h ∙ sym (lt-leb (p .rank j) (suc s) (omega arith)))))
+  count-bare s none = count-ext (unplaced p s) (unplaced p (suc s)) (tb .n) (λ j l. unplaced-other p s j (none j l))
 
   count-rises : (s : ℕ) → r ≤ s → count (unplaced p (suc s)) (tb .n) ≤ count (unplaced p s) (tb .n) + 1
   count-rises s h =
       holder p (tb .n) (suc s) (λ y l e. omega (arith, count-held s y h l e)) (λ none. omega (arith, count-bare s none))
 
-  count-most : (d : ℕ) → count (unplaced p (r + d)) (tb .n) ≤ r + d
-  count-most zero = omega (
-    arith,
-    k .left,
-    ap (λ x. count (unplaced p x) (tb .n))
-        (let e : r + 0 ≡ r = omega arith in e),
-  )
-  count-most (suc d) =
-      omega (
-        arith,
-        count-most d,
-        count-rises (r + d) (omega arith),
-        ap (λ x. count (unplaced p x) (tb .n)) (let e : r + suc d ≡ suc (r + d) = omega arith in e),
-      )
+  count-most : (d s : ℕ) → r + d ≡ s → count (unplaced p s) (tb .n) ≤ s
+  count-most zero s e = let q : s ≡ r = omega arith in rw q (omega (arith, k .left))
+  count-most (suc d) s e =
+      let q : s ≡ suc (r + d) = omega arith in
+      rw q (omega (arith, count-most d (r + d) (omega arith), count-rises (r + d) (omega arith)))
 
   count-least : (e s : ℕ) → r ≤ s → s + e ≡ tb .n → s ≤ count (unplaced p s) (tb .n)
   count-least zero s h q =
-      omega (
-        arith,
-        count-all (tb .n),
-        count-ext (unplaced p s) (λ _. true) (tb .n) (λ j l. le-leb (p .rank j) s (omega (arith, k .high j l))),
-      )
+      let all = count-ext (unplaced p s) (λ _. true) (tb .n)
+      (λ j l. le-leb (p .rank j) s (omega (arith, k .high j l))) in
+      omega (arith, count-all (tb .n))
   count-least (suc e) s h q = omega (arith, count-least e (suc s) (omega arith) (omega arith), count-rises s h)
 
   -- while rank s is being filled, s rows are not placed
   pub ranked-left : (s : ℕ) → r ≤ s → s ≤ tb .n → count (unplaced p s) (tb .n) ≡ s
   ranked-left s h g =
-      omega (
-        arith,
-        count-least (tb .n - s) s h (omega arith),
-        count-most (s - r),
-        ap (λ x. count (unplaced p x) (tb .n)) (let e : r + (s - r) ≡ s = omega arith in e),
-      )
+      omega (arith, count-least (tb .n - s) s h (omega arith), count-most (s - r) s (omega arith))
 
   -- each rank greater than r has its row
   pub held : (s : ℕ) → r ≤ s → suc s ≤ tb .n → (y : ℕ) × (y < tb .n) × (p .rank y ≡ suc s)
   held s h g =
       holder p (tb .n) (suc s)
       (λ y l e. (y, l, e))
-      (λ none. absurd (omega (
-        arith,
-        count-bare s none,
-        ranked-left s h (omega arith),
-        ranked-left (suc s) (omega arith)
-            g,
-      )))
+      (λ none.
+      let here = ranked-left s h (omega arith) in
+      absurd (omega (arith, count-bare s none, ranked-left (suc s) (omega arith) g)))
 
 -- the ranks of a well-formed plan
 pub ranked-well : (tb : Table) (p : Plan) → WellFormed tb p → Ranked tb p 0
