@@ -2,6 +2,7 @@
 -- where no plan passes.
 use Prim.Native.Nat.{ℕ, zero, suc, pred, _+_, _-_, _≤_, _<_, max}
 use mathlib.Core.Path.{_≡_, ap, sym, _∙_, subst}
+use mathlib.Core.Bool.{Bool}
 use native.Mathlib.Omega.{arith}
 use borrow.Author.Tests.{le-leb, lt-leb, lt-ltb, le-ltb}
 use Rattle.counting.specs.Sum.{without}
@@ -36,20 +37,24 @@ module _ (tb : Table) (pos : Positive tb) (p : Plan) where
     abbrev r : ℕ
     r = p .rank y
 
-    same-load : (t : ℕ) → load before tb (above p r) t ≡ load before tb (without (unplaced p r) y) t
-    same-load t = load-ext tb before (above p r) (without (unplaced p r) y) (λ j g. above-others p y j (once j g)) t
+    abbrev B : ℕ
+    B = blocking tb p r
+
+    abbrev others : ℕ → Bool
+    others = without (unplaced p r) y
+
+    same-load : (t : ℕ) → load before tb (above p r) t ≡ load before tb others t
+    same-load = load-ext tb before (above p r) others (λ j g. above-others p y j (once j g))
 
     -- a row passes exactly if its length fits at its rank
-    passes-fits : RowPasses tb p y → Fits tb (without (unplaced p r) y) (blocking tb p r) y (p .len y)
+    passes-fits : RowPasses tb p y → Fits tb others B y (p .len y)
     passes-fits x =
-        fits-compare tb pos y l (without (unplaced p r) y) (above p r) (blocking tb p r) (blocking tb p r) (p .len y)
-        low high
-        (λ t _. omega (arith, same-load t)) (record { R = x .R; response = x .response; within = x .within })
+        fits-compare tb pos y l others (above p r) B B (p .len y) low high (λ t _. omega (arith, same-load t))
+        (record { R = x .R; response = x .response; within = x .within })
 
-    fits-passes : Fits tb (without (unplaced p r) y) (blocking tb p r) y (p .len y) → RowPasses tb p y
+    fits-passes : Fits tb others B y (p .len y) → RowPasses tb p y
     fits-passes x =
-        let f = fits-compare tb pos y l (above p r) (without (unplaced p r) y) (blocking tb p r) (blocking tb p r)
-        (p .len y) low high
+        let f = fits-compare tb pos y l (above p r) others B B (p .len y) low high
         (λ t _. omega (arith, same-load t)) x in
         record { R = f .R; response = f .response; within = f .within }
 
@@ -92,6 +97,7 @@ module _ (tb : Table) (pos : Positive tb) (p : Plan) where
         let y = k .0 in
         let l = k .1 in
         let once : (j : ℕ) → j < tb .n → p .rank j ≡ p .rank y → j ≡ y = λ j g e. wf .once j y g l e in
+        let own = longest-ge tb p r y l (omega (arith, k .2)) in
         let fits = passes-fits y l (wf .len-low y l) (wf .len-high y l) once (ok y l) in (
           y,
           p .len y,
@@ -102,14 +108,9 @@ module _ (tb : Table) (pos : Positive tb) (p : Plan) where
             high = wf .len-high y l;
             fits = rw (k .2, blocking-is tb p s) at fits;
           },
-          peels-compare tb pos r (without (unplaced p s) y) (unplaced p r) (max (longest tb p s) (p .len y))
-              (longest tb p r)
+          peels-compare tb pos r (without (unplaced p s) y) (unplaced p r) (max (longest tb p s) (p .len y)) _
               (λ j g. sym (unplaced-next p r y j (k .2) (λ e. once j g (e ∙ sym (k .2)))))
-              (omega (
-                arith,
-                longest-ge tb p r y l (omega (arith, k .2)),
-                longest-le tb p p s r (λ j g lt. (omega arith, omega arith)),
-              ))
+              (omega (arith, own, longest-le tb p p s r (λ j g lt. (omega arith, omega arith))))
               (peels-of r (omega arith)),
         )
 
@@ -119,8 +120,7 @@ module _ (tb : Table) (pos : Positive tb) (p : Plan) (o : Plan) (wf : WellFormed
   left-peels zero r h f =
       let n : r ≡ tb .n = omega arith in
       rw n
-      (peels-compare tb pos (tb .n) (unplaced p (tb .n)) (unplaced o (tb .n)) (longest tb p (tb .n))
-      (longest tb o (tb .n))
+      (peels-compare tb pos (tb .n) (unplaced p (tb .n)) (unplaced o (tb .n)) (longest tb p (tb .n)) _
       (λ j l. le-leb (p .rank j) (tb .n) (f .high j l) ∙ sym (le-leb (o .rank j) (tb .n) (wf .rank-high j l)))
       (longest-le tb p o (tb .n) (tb .n) (λ j l lt. absurd (omega (arith, f .high j l))))
       (peels-of tb pos o wf ok (tb .n) (omega arith)))

@@ -1,6 +1,6 @@
 -- The choice always ends or stops: under a busy period within H, some plan is chosen or the choice stops at a rank.
 use Prim.Native.Nat.{ℕ, zero, suc, _≤_, _<_}
-use mathlib.Core.Path.{_≡_, refl, sym, _∙_, subst}
+use mathlib.Core.Path.{_≡_, refl, _∙_}
 use mathlib.Core.Bool.{Bool, true, false, cond}
 use mathlib.Core.Logic.{_⊎_, inl, inr, ⊎-elim}
 use native.Mathlib.Omega.{arith}
@@ -11,29 +11,15 @@ use Rattle.counting.specs.Least.{Least}
 use Rattle.counting.proofs.Cases.{by-bool, by-le, by-eq, not-both}
 use Rattle.tables.specs.Table.{Table, Sound}
 use Rattle.tables.specs.Plan.{Plan, WellFormed, cap}
-use Rattle.tables.proofs.Checked.{first-here}
 use Rattle.test.specs.Test.{BusyWithin, Active, blocking, Passes}
 use Rattle.test.proofs.Load.{Positive, sound-positive}
 use Rattle.test.proofs.Sides.{active-side-level}
 use Rattle.test.proofs.Plans.{level-active, room}
 use Rattle.choice.specs.Choice.{unplaced, Fits, Takes, NoneFits, Filled, Chosen, Stopped}
-use Rattle.choice.proofs.Level.{fits-or-not}
+use Rattle.choice.proofs.Level.{first-of, fits-or-not}
 use Rattle.counting.proofs.Sum.{largest-ge, count-le}
 use Rattle.choice.proofs.Placed.{Placed, filled-none, filled-placed}
 use Rattle.choice.proofs.Complete.{chosen-well-formed, chosen-passes, stopped-no-plan}
-
--- where each number below n is decided, one of them is the first, or there is none
-first-of : {E : ℕ → Type 0} (n : ℕ) → ((t : ℕ) → t < n → E t ⊎ ¬ E t) →
-    ((t : ℕ) × Least E 0 t) ⊎ ((t : ℕ) → t < n → ¬ E t)
-first-of zero decide = inr (λ t l. absurd (omega arith))
-first-of {E} (suc n) decide =
-    ⊎-elim inl
-    (λ none.
-    ⊎-elim
-    (λ e. inl (n, first-here n e none))
-    (λ no. inr (λ t l. by-eq t n (λ q. subst (λ x. ¬ E x) (sym q) no) (λ q. none t (omega arith))))
-    (decide n (omega arith)))
-    (first-of n (λ t l. decide t (omega arith)))
 
 -- one level, where the active period of each of its rows is known
 module _ (tb : Table) (pos : Positive tb) (U : ℕ → Bool) (b : ℕ)

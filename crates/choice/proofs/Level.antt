@@ -3,6 +3,7 @@
 use Prim.Native.Nat.{ℕ, zero, suc, _+_, _-_, _≤_, _<_}
 use mathlib.Core.Path.{_≡_, ap, sym, _∙_, subst}
 use mathlib.Core.Bool.{Bool, true, _&&_, not}
+use mathlib.Core.Logic.{_⊎_, inl, inr, ⊎-elim}
 use native.Mathlib.Omega.{arith}
 use lib.Dec.{eqb}
 use Rattle.counting.specs.Sum.{without}
@@ -11,11 +12,25 @@ use Rattle.counting.proofs.Cases.{by-le, by-eq}
 use Rattle.counting.proofs.Least.{least-map}
 use Rattle.tables.specs.Table.{Table}
 use Rattle.tables.specs.Plan.{cap}
+use Rattle.tables.proofs.Checked.{first-here}
 use Rattle.test.specs.Test.{before, load, Active}
 use Rattle.test.proofs.Load.{Positive, load-ext}
 use Rattle.test.proofs.Response.{response-exists, response-unique}
 use Rattle.test.proofs.Compare.{response-compare, response-longer}
 use Rattle.choice.specs.Choice.{Fits, Shortest, Takes, NoneFits}
+
+-- where each number below n is decided, one of them is the first, or there is none
+pub first-of : {E : ℕ → Type 0} (n : ℕ) → ((t : ℕ) → t < n → E t ⊎ ¬ E t) →
+    ((t : ℕ) × Least E 0 t) ⊎ ((t : ℕ) → t < n → ¬ E t)
+first-of zero decide = inr (λ t l. absurd (omega arith))
+first-of {E} (suc n) decide =
+    ⊎-elim inl
+    (λ none.
+    ⊎-elim
+    (λ e. inl (n, first-here n e none))
+    (λ no. inr (λ t l. by-eq t n (λ q. subst (λ x. ¬ E x) (sym q) no) (λ q. none t (omega arith))))
+    (decide n (omega arith)))
+    (first-of n (λ t l. decide t (omega arith)))
 
 module _ (tb : Table) (pos : Positive tb) (z : ℕ) (l : z < tb .n) where
   -- a length that fits goes on fitting where the level asks for no more
@@ -23,8 +38,8 @@ module _ (tb : Table) (pos : Positive tb) (z : ℕ) (l : z < tb .n) where
       ((t : ℕ) → 1 ≤ t → b + load before tb P t ≤ b′ + load before tb P′ t) →
       Fits tb P′ b′ z q → Fits tb P b z q
   fits-compare P P′ b b′ q some most le f =
-      let r =
-      response-compare tb tb P P′ b b′ z pos pos l l (omega arith) (omega arith) le q (f .R) some most (f .response) in
+      let r = response-compare tb tb P P′ b b′ z pos pos l l (omega arith) (omega arith) le q (f .R) some most
+      (f .response) in
       record { R = r .0; response = r .1; within = omega (arith, r .2, f .within) }
 
   module _ (P : ℕ → Bool) (b : ℕ) where
@@ -42,49 +57,38 @@ module _ (tb : Table) (pos : Positive tb) (z : ℕ) (l : z < tb .n) where
         let r = response-exists tb P b z q pos l some most L a in
         by-le (r .0) (tb .D z)
         (λ h. fit (record { R = r .0; response = r .1; within = h }))
-        (λ h. miss (λ f. absurd (omega (
-          arith,
-          f .within,
-          response-unique tb P b z q (r .0) (f .R) (r .1)
-              (f .response),
-        ))))
+        (λ h. miss (λ f.
+        absurd (omega (arith, f .within, response-unique tb P b z q (r .0) (f .R) (r .1) (f .response)))))
 
-    -- where a length fits there is a shortest, and no later: go down from it
-    pub least-fit : (k q : ℕ) → q ≤ k → 1 ≤ q → q ≤ cap tb z → Fits tb P b z q →
+    -- where a length fits there is a shortest, and no later
+    least-fit : (q : ℕ) → 1 ≤ q → q ≤ cap tb z → Fits tb P b z q →
         (m : ℕ) × Least (λ l. (l ≤ cap tb z) × Fits tb P b z l) 1 m × (m ≤ q)
-    least-fit zero q h some most f = absurd (omega arith)
-    least-fit (suc k) q h some most f =
-        by-eq q 1
-        (λ e. (q, record { low = some; holds = (most, f); least = λ u a _. omega arith }, omega arith))
-        (λ e.
-        fits-or-not (f .response .period) (f .response .active) (q - 1) (omega arith) (omega arith)
-        (λ y. let r = least-fit k (q - 1) (omega arith) (omega arith) (omega arith) y in
-        (r .0, r .1, omega (arith, r .2)))
-        (λ n. (
-          q,
-          record {
-            low = some;
-            holds = (most, f);
-            least =
-                λ u a g.
-                by-le q u (λ x. x) (λ x. absurd (n (fits-longer u (q - 1) a (omega arith) (omega arith) (g .1))));
-          },
-          omega arith,
-        )))
+    least-fit q some most f =
+        ⊎-elim
+        (λ r.
+        let least : (u : ℕ) → 1 ≤ u → (u ≤ cap tb z) × Fits tb P b z u → r .0 ≤ u =
+        λ u a g. r .1 .least u (omega arith) (a, g) in
+        (r .0, record { low = r .1 .holds .0; holds = r .1 .holds .1; least = least }, least q some (most, f)))
+        (λ none. absurd (none q (omega arith) (some, (most, f))))
+        (first-of {E = λ l. (1 ≤ l) × ((l ≤ cap tb z) × Fits tb P b z l)} (suc q) (λ t h.
+        by-le 1 t
+        (λ a.
+        fits-or-not (f .response .period) (f .response .active) t a (omega arith)
+        (λ y. inl (a, (omega arith, y)))
+        (λ n. inr (λ x. n (x .1 .1))))
+        (λ a. inr (λ x. omega (arith, x .0)))))
 
 -- the row that takes a rank, against any length that fits of any row that is tried
 pub takes-least : (tb : Table) (U : ℕ → Bool) (b : ℕ) (tried : ℕ → Bool) (y q z l : ℕ) → Positive tb →
     Takes tb U b tried y q →
     z < tb .n → tried z ≡ true → 1 ≤ l → l ≤ cap tb z → Fits tb (without U z) b z l → (q ≤ l) × (q ≡ l → y ≤ z)
 takes-least tb U b tried y q z l pos t g e some most f =
-    let s = least-fit tb pos z g (without U z) b l l (omega arith) some most f in
+    let s = least-fit tb pos z g (without U z) b l some most f in
     let le = t .least z (s .0) g e (s .1) in (
       omega (arith, s .2),
       λ same.
-          by-le y z (λ h. h)
-          (λ h.
           let m : s .0 ≡ q = omega (arith, s .2) in
-          absurd (t .earliest z h e (subst (Shortest tb U b z) m (s .1)))),
+          by-le y z (λ h. h) (λ h. absurd (t .earliest z h e (rw m at (s .1)))),
     )
 
 -- one row at most takes a rank, with one length
@@ -110,14 +114,10 @@ module _ (tb : Table) (pos : Positive tb) (U U′ : ℕ → Bool) (b b′ : ℕ)
   pub fits-alike : (z q : ℕ) → z < tb .n → 1 ≤ q → q ≤ cap tb z → Fits tb (without U z) b z q →
       Fits tb (without U′ z) b′ z q
   fits-alike z q l some most f =
+      let load = load-ext tb before (without U z) (without U′ z)
+      (λ j g. ap (λ x. x && not (eqb j z)) (same .rows j g)) in
       fits-compare tb pos z l (without U′ z) (without U z) b′ b q some most
-      (λ t _.
-      omega (
-        arith,
-        same .blocking,
-        load-ext tb before (without U z) (without U′ z) (λ j g. ap (λ x. x && not (eqb j z)) (same .rows j g)) t,
-      ))
-      f
+      (λ t _. omega (arith, same .blocking, load t)) f
 
 pub shortest-alike : (tb : Table) (U U′ : ℕ → Bool) (b b′ z q : ℕ) → Positive tb → Alike tb U U′ b b′ → z < tb .n →
     Shortest tb U b z q → Shortest tb U′ b′ z q

@@ -1,6 +1,6 @@
 -- The rank and length columns of a planned table, as a slice of their own.
 use Prim.Native.Nat.{ℕ, zero, suc, _+_, _*_, _/_, _%_, _<_}
-use mathlib.Core.Path.{_≡_, refl, ap, sym, _∙_}
+use mathlib.Core.Path.{_≡_, refl, ap}
 use mathlib.Core.Bool.{cond}
 use mathlib.Core.List.{List, [], _∷_}
 use native.Mathlib.Omega.{arith}
@@ -32,26 +32,22 @@ slice-at f (suc m) (suc i) l = slice-at (λ j. f (suc j)) m i (omega arith)
 in-turn : Plan → ℕ → ℕ
 in-turn p j = cond (eqb (j % 2) 0) (p .rank (j / 2)) (p .len (j / 2))
 
-in-turn-rank : (p : Plan) (i : ℕ) → in-turn p (2 * i) ≡ p .rank i
-unfolding in-turn
-in-turn-rank p i =
-    let half : 2 * i / 2 ≡ i = omega arith in
-    simp (eq-eqb (2 * i % 2) 0 (omega arith)) (ap (p .rank) half)
-
-in-turn-len : (p : Plan) (i : ℕ) → in-turn p (2 * i + 1) ≡ p .len i
-unfolding in-turn
-in-turn-len p i =
-    let half : (2 * i + 1) / 2 ≡ i = omega arith in
-    simp (ne-eqb ((2 * i + 1) % 2) 0 (omega arith)) (ap (p .len) half)
-
 pub columns-exist : (tb : Table) (planned : List ℕ) → (ps : List ℕ) × Columns tb planned ps
+unfolding in-turn
 columns-exist tb planned =
     let p = plannedOf planned in
-    let m = plan-width * tb .n in (
+    let m = plan-width * tb .n in
+    let at = slice-at (in-turn p) m in (
       slice (in-turn p) m,
       record {
         whole = slice-length (in-turn p) m;
-        rank = λ i l. sym (slice-at (in-turn p) m (plan-width * i) (omega arith) ∙ in-turn-rank p i);
-        len = λ i l. sym (slice-at (in-turn p) m (plan-width * i + 1) (omega arith) ∙ in-turn-len p i);
+        rank =
+            λ i l.
+            let half : plan-width * i / 2 ≡ i = omega arith in
+            rw (at (plan-width * i) (omega arith), eq-eqb (plan-width * i % 2) 0 (omega arith), half);
+        len =
+            λ i l.
+            let half : (plan-width * i + 1) / 2 ≡ i = omega arith in
+            rw (at (plan-width * i + 1) (omega arith), ne-eqb ((plan-width * i + 1) % 2) 0 (omega arith), half);
       },
     )

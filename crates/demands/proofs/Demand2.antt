@@ -19,7 +19,8 @@ use Rattle.choice.specs.Choice.{Stopped}
 use Rattle.choice.specs.Answers.{plannedOf, responseIn}
 use Rattle.choice.proofs.Complete.{chosen-passes, chosen-shortest, stopped-no-plan}
 use Rattle.demands.specs.Demand2.{TimesAreTheTests, PlannedAreTheTests, Accepted, RefusedExactlyIfNonePasses}
-use Rattle.demands.specs.Demand2.{TestsResponse, Given, ShortestAtEachRank, Columns, Agrees, PlanTimesVerdictAgree}
+use Rattle.demands.specs.Demand2.{TestsResponse, Given, ShortestAtEachRank, Columns, Agrees}
+use Rattle.demands.specs.Demand2.{PlanTimesVerdictAgree}
 use Rattle.demands.proofs.Gave.{Gave, PlanGave, plan-gave, times-gave, under-busy}
 use Rattle.demands.proofs.Columns.{columns-exist}
 

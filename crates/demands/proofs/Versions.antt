@@ -68,8 +68,8 @@ module _ (f : Version) where
   fixed w a b =
       let s = at-second a in
       let t = at-third b in
-      let same = on (on w second-table six refl) third-table six refl (number-of s) (number-of t) refl 1 (omega arith) in
-      omega (arith, same .1, number-at s 4, number-at t 4)
+      let same = on (on w second-table six refl) third-table six refl (number-of s) (number-of t) refl 1 in
+      omega (arith, same (omega arith) .1, number-at s 4, number-at t 4)
 
   untouched : LeavesTheOutput f → BreaksOn second-table six f
   unfolding all words
@@ -99,7 +99,8 @@ module _ (f : Version) where
       let e = plan-unique urgent-first nine _ _ a (further-figures .0 nine refl) in
       let r₀ = number-at e 0 in
       let r₂ = number-at e 6 in
-      omega (arith, on w urgent-first nine refl (number-of e) 0 2 (omega arith) (omega arith) (omega arith) (omega arith))
+      let ordered = on w urgent-first nine refl (number-of e) 0 2 in
+      omega (arith, ordered (omega arith) (omega arith) (omega arith) (omega arith))
 
   by-deadline : RanksByDeadline f → BreaksOn three-rows nine f
   unfolding all words
