@@ -7,6 +7,7 @@ use native.Mathlib.Omega.{arith}
 use borrow.Author.Tests.{le-leb, lt-leb, lt-ltb, le-ltb}
 use Rattle.counting.specs.Sum.{without}
 use Rattle.counting.proofs.Cases.{by-le, by-eq}
+use Rattle.counting.proofs.Sum.{is-without}
 use Rattle.tables.specs.Table.{Table}
 use Rattle.tables.specs.Plan.{Plan, WellFormed, cap}
 use Rattle.test.specs.Test.{before, load, Response, above, longest, blocking, RowPasses, Passes}
@@ -14,7 +15,7 @@ use Rattle.test.proofs.Load.{Positive, load-ext}
 use Rattle.test.proofs.Plans.{blocking-is, longest-ge, longest-le, longest-cases}
 use Rattle.choice.specs.Choice.{unplaced, Fits, Filled, Chosen, Stopped}
 use Rattle.choice.proofs.Level.{fits-compare, takes-least}
-use Rattle.choice.proofs.Ranked.{is-without, unplaced-next, ranked-well, held}
+use Rattle.choice.proofs.Ranked.{unplaced-next, ranked-well, held}
 use Rattle.choice.proofs.Filled.{filled-takes, filled-more, chosen-low}
 use Rattle.choice.proofs.Exchange.{Peels, peels-compare, exchange}
 

@@ -7,7 +7,7 @@ use native.Mathlib.Omega.{arith}
 use lib.Dec.{leb}
 use borrow.Author.Tests.{le-leb, leb-false}
 use Rattle.counting.proofs.Cases.{by-le, by-eq}
-use Rattle.counting.proofs.Sum.{count-zero}
+use Rattle.counting.proofs.Sum.{count-zero, count-ext}
 use Rattle.tables.specs.Table.{Table}
 use Rattle.tables.specs.Plan.{Plan}
 use Rattle.test.specs.Test.{longest, blocking}
@@ -15,7 +15,6 @@ use Rattle.test.proofs.Load.{Positive}
 use Rattle.test.proofs.Plans.{blocking-is, longest-le}
 use Rattle.choice.specs.Choice.{unplaced, TakesRank, NoneFitsRank, Filled, Chosen, Stopped}
 use Rattle.choice.proofs.Level.{Alike, fits-alike, takes-alike, takes-unique}
-use Rattle.counting.proofs.Sum.{count-ext}
 use Rattle.choice.proofs.Ranked.{Ranked, ranked-left, held}
 
 pub filled-ranked : {tb : Table} {p : Plan} {r : ℕ} → Filled tb p r → Ranked tb p r
@@ -61,6 +60,13 @@ agree-alike tb p p′ s a =
       blocking = omega (arith, blocking-is tb p s, blocking-is tb p′ s);
     }
 
+-- so the same row takes the rank s
+pub takes-agree : (tb : Table) (p p′ : Plan) (s y q : ℕ) → Positive tb → Agree tb p p′ s → TakesRank tb p s y q →
+    TakesRank tb p′ s y q
+takes-agree tb p p′ s y q pos a t =
+    takes-alike tb (unplaced p s) (unplaced p′ s) (blocking tb p s) (blocking tb p′ s) y q pos
+    (agree-alike tb p p′ s a) t
+
 -- the row that holds a rank takes it
 pub filled-takes : {tb : Table} {p : Plan} {r : ℕ} (s : ℕ) → Filled tb p r → r ≤ s → suc s ≤ tb .n →
     (y : ℕ) × (y < tb .n) × (p .rank y ≡ suc s) × TakesRank tb p (suc s) y (p .len y)
@@ -81,8 +87,7 @@ module _ (tb : Table) (pos : Positive tb) (p p′ : Plan) where
       let y = h .0 in
       let y′ = h′ .0 in
       let u = takes-unique tb (unplaced p′ s) (blocking tb p′ s) (unplaced p′ s) y (p .len y) y′ (p′ .len y′)
-      (takes-alike tb (unplaced p s) (unplaced p′ s) (blocking tb p s) (blocking tb p′ s) y (p .len y) pos
-      (agree-alike tb p p′ s a) (h .3)) (h′ .3) in
+      (takes-agree tb p p′ s y (p .len y) pos a (h .3)) (h′ .3) in
       by-eq j y
       (λ x. inr (
         ap (p .rank) x ∙ h .2 ∙ sym (ap (p′ .rank) (x ∙ u .0) ∙ h′ .2),
@@ -159,7 +164,6 @@ filled-same tb p p′ r pos same f =
       takes =
           λ y l h.
           let s = p .rank y in
-          let t = takes-alike tb (unplaced p s) (unplaced p′ s) (blocking tb p s) (blocking tb p′ s) y (p .len y) pos
-          (agree-alike tb p p′ s (same-agree tb p p′ s same)) (f .takes y l (omega (arith, same y l .0))) in
-          rw (same y l .0, same y l .1) at t;
+          let t = f .takes y l (omega (arith, same y l .0)) in
+          rw (same y l .0, same y l .1) at (takes-agree tb p p′ s y (p .len y) pos (same-agree tb p p′ s same) t);
     }

@@ -7,17 +7,15 @@ use native.Mathlib.Omega.{arith}
 use borrow.Author.Tests.{le-leb, leb-true}
 use Rattle.counting.specs.Sum.{without, count}
 use Rattle.counting.proofs.Cases.{by-eq}
-use Rattle.counting.proofs.Sum.{count-all, count-without}
+use Rattle.counting.proofs.Sum.{count-all, count-without, count-ext, count-le}
 use Rattle.tables.specs.Table.{Table}
 use Rattle.tables.specs.Plan.{Plan}
 use Rattle.test.specs.Test.{longest, blocking}
 use Rattle.test.proofs.Load.{Positive}
 use Rattle.test.proofs.Plans.{blocking-is, longest-ge, longest-le, longest-cases}
 use Rattle.choice.specs.Choice.{unplaced, TakesRank, Filled}
-use Rattle.choice.proofs.Level.{takes-alike}
-use Rattle.counting.proofs.Sum.{count-ext, count-le}
 use Rattle.choice.proofs.Ranked.{unplaced-next}
-use Rattle.choice.proofs.Filled.{Agree, agree-alike}
+use Rattle.choice.proofs.Filled.{Agree, agree-alike, takes-agree}
 
 -- a plan that has placed nothing is filled to n
 pub filled-none : (tb : Table) (p : Plan) → ((j : ℕ) → j < tb .n → p .rank j ≡ 0) → Filled tb p (tb .n)
@@ -56,9 +54,7 @@ module _ (tb : Table) (pos : Positive tb) (p p′ : Plan) (r y q : ℕ) (f : Fil
       (λ e. let o = h .others j l e in inr (sym (o .0), sym (o .1)))
 
   placed-takes : (s x l : ℕ) → suc r ≤ s → TakesRank tb p s x l → TakesRank tb p′ s x l
-  placed-takes s x l g k =
-      takes-alike tb (unplaced p s) (unplaced p′ s) (blocking tb p s) (blocking tb p′ s) x l pos
-      (agree-alike tb p p′ s (placed-agree s g)) k
+  placed-takes s x l g k = takes-agree tb p p′ s x l pos (placed-agree s g) k
 
   pub filled-placed : Filled tb p′ r
   filled-placed =

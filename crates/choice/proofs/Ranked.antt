@@ -1,15 +1,14 @@
 -- Laws of ranks: where the ranks greater than r are held once each and r rows are left, every such rank has its row.
 use Prim.Native.Nat.{ℕ, zero, suc, _+_, _-_, _≤_, _<_}
 use mathlib.Core.Path.{_≡_, ap, sym, _∙_}
-use mathlib.Core.Bool.{Bool, true, false, not}
+use mathlib.Core.Bool.{Bool, true, not}
 use native.Mathlib.Omega.{arith}
 use lib.Dec.{eqb}
 use borrow.Author.Tests.{eqb-true, eq-eqb, le-leb, lt-leb}
 use Rattle.counting.specs.Sum.{without, count}
-use Rattle.counting.proofs.Cases.{by-bool, by-le, by-eq, not-both}
+use Rattle.counting.proofs.Cases.{by-bool, by-le, not-both}
 use Rattle.counting.proofs.Search.{all, all-at, all-not}
-use Rattle.counting.proofs.Sum.{without-same, without-other}
-use Rattle.counting.proofs.Sum.{count-without, count-all, count-ext, count-none}
+use Rattle.counting.proofs.Sum.{is-without, count-without, count-all, count-ext, count-none}
 use Rattle.tables.specs.Table.{Table}
 use Rattle.tables.specs.Plan.{Plan, WellFormed}
 use Rattle.choice.specs.Choice.{unplaced}
@@ -31,13 +30,6 @@ holder p n s some none =
     let r = all-not other n e in
     some (r .0) (r .1) (by-bool (eqb (p .rank (r .0)) s) (λ t. eqb-true (p .rank (r .0)) s t)
     (λ f. not-both (other (r .0)) (r .2) (ap not f))))
-
--- a test that fails at y and is that of U at every other number
-pub is-without : (U : ℕ → Bool) (y j : ℕ) (b : Bool) → (j ≡ y → b ≡ false) → (¬ (j ≡ y) → b ≡ U j) → b ≡ without U y j
-is-without U y j b same other =
-    by-eq j y
-    (λ e. same e ∙ sym (ap (without U y) e ∙ without-same U y))
-    (λ e. other e ∙ sym (without-other U y j e))
 
 -- a row of another rank than s + 1 is placed at rank s if it is at rank s + 1
 unplaced-other : (p : Plan) (s j : ℕ) → ¬ (p .rank j ≡ suc s) → unplaced p s j ≡ unplaced p (suc s) j

@@ -7,6 +7,7 @@ use native.Mathlib.Nat.{add-zero, add-suc}
 use lib.Dec.{eqb, ltb}
 use borrow.Author.Tests.{eq-eqb, ne-eqb, lt-ltb, le-ltb}
 use Rattle.counting.specs.Sum.{given, without, sum, largest, count}
+use Rattle.counting.proofs.Search.{by-any}
 use Rattle.counting.proofs.Cases.{by-bool, by-eq, by-le, not-both}
 
 -- a set without one of its numbers
@@ -15,6 +16,13 @@ without-same U y = by-bool (U y) (λ e. rw (e, eq-eqb y y refl)) (λ e. rw e)
 
 pub without-other : (U : ℕ → Bool) (y j : ℕ) → ¬ (j ≡ y) → without U y j ≡ U j
 without-other U y j h = by-bool (U j) (λ e. rw (e, ne-eqb j y h)) (λ e. rw e)
+
+-- a test that fails at y and is that of U at every other number
+pub is-without : (U : ℕ → Bool) (y j : ℕ) (b : Bool) → (j ≡ y → b ≡ false) → (¬ (j ≡ y) → b ≡ U j) → b ≡ without U y j
+is-without U y j b same other =
+    by-eq j y
+    (λ e. same e ∙ sym (ap (without U y) e ∙ without-same U y))
+    (λ e. other e ∙ sym (without-other U y j e))
 
 pub without-intro : (U : ℕ → Bool) (y j : ℕ) → ¬ (j ≡ y) → U j ≡ true → without U y j ≡ true
 without-intro U y j h e = without-other U y j h ∙ e
@@ -47,24 +55,6 @@ pub given-le : (b : Bool) {x y : ℕ} → x ≤ y → given b x ≤ given b y
 given-le true h = h
 given-le false h = omega arith
 
--- one number taken out of a sum
-pub sum-without : (U : ℕ → Bool) (y : ℕ) (f : ℕ → ℕ) (n : ℕ) → y < n → U y ≡ true →
-    sum (λ j. given (without U y j) (f j)) n + f y ≡ sum (λ j. given (U j) (f j)) n
-unfolding sum
-sum-without U y f zero h e = absurd (omega arith)
-sum-without U y f (suc n) h e =
-    by-eq n y
-    (λ q.
-    omega (
-      arith,
-      sum-ext (λ j. given (without U y j) (f j)) (λ j. given (U j) (f j)) n
-          (λ j l. ap (λ b. given b (f j)) (without-other U y j (omega arith))),
-      given-no (without U y n) (f n) (rw q (without-same U y)),
-      given-yes (U n) (f n) (rw q e),
-      ap f q,
-    ))
-    (λ q. omega (arith, sum-without U y f n (omega arith) e, ap (λ b. given b (f n)) (without-other U y n q)))
-
 pub largest-ge : (f : ℕ → ℕ) (n j : ℕ) → j < n → f j ≤ largest f n
 unfolding largest
 largest-ge f zero j h = absurd (omega arith)
@@ -87,18 +77,6 @@ largest-cases f (suc n) a b =
     by-le (largest f n) (f n)
     (λ h. b n (omega arith) (omega arith))
     (λ h. largest-cases f n (λ e. a (omega arith)) (λ j l e. b j (omega arith) (omega arith)))
-
-pub count-zero : (P : ℕ → Bool) (n : ℕ) → count P n ≡ 0 → (j : ℕ) → j < n → P j ≡ false
-unfolding count sum
-count-zero P zero h j l = absurd (omega arith)
-count-zero P (suc n) h j l =
-    by-eq j n
-    (λ e. rw e (by-bool (P n) (λ g. absurd (omega (arith, given-yes (P n) 1 g))) (λ g. g)))
-    (λ e. count-zero P n (omega arith) j (omega arith))
-
-pub count-without : (U : ℕ → Bool) (y n : ℕ) → y < n → U y ≡ true → count (without U y) n + 1 ≡ count U n
-unfolding count
-count-without U y n l e = sum-without U y (λ _. 1) n l e
 
 pub count-all : (n : ℕ) → count (λ _. true) n ≡ n
 unfolding count sum
@@ -140,19 +118,6 @@ sum-lt f g (suc n) k h l a =
     (λ q. omega (arith, sum-le f g n (λ j i. h j (omega arith)), subst (λ z. f z < g z) q a))
     (λ q. omega (arith, sum-lt f g n k (λ j i. h j (omega arith)) (omega arith) a, h n (omega arith)))
 
--- a sum over jobs, row by row
-pub sum-swap : (r h : ℕ → ℕ) (n m : ℕ) → ((k : ℕ) → k < m → r k < n) →
-    sum h m ≡ sum (λ j. sum (λ k. given (eqb (r k) j) (h k)) m) n
-unfolding sum
-sum-swap r h n zero l = sym (sum-zero (λ j. sum (λ k. given (eqb (r k) j) (h k)) zero) n (λ j _. refl))
-sum-swap r h n (suc m) l =
-    omega (
-      arith,
-      sum-swap r h n m (λ k g. l k (omega arith)),
-      sum-delta (h m) (r m) n (l m (omega arith)),
-      sum-add (λ j. sum (λ k. given (eqb (r k) j) (h k)) m) (λ j. given (eqb (r m) j) (h m)) n,
-    )
-
 pub sum-shift : (f : ℕ → ℕ) (a b : ℕ) → sum f (a + b) ≡ sum f a + sum (λ v. f (a + v)) b
 unfolding sum
 sum-shift f a zero = rw (add-zero a) (omega arith)
@@ -182,23 +147,47 @@ unfolding sum
 sum-fubini h zero n = sym (sum-zero (λ r. sum (λ u. h u r) zero) n (λ _ _. refl))
 sum-fubini h (suc m) n = omega (arith, sum-fubini h m n, sum-add (λ r. sum (λ u. h u r) m) (h m) n)
 
+-- a sum over jobs, row by row
+pub sum-swap : (r h : ℕ → ℕ) (n m : ℕ) → ((k : ℕ) → k < m → r k < n) →
+    sum h m ≡ sum (λ j. sum (λ k. given (eqb (r k) j) (h k)) m) n
+sum-swap r h n m l =
+    sum-ext h (λ k. sum (λ j. given (eqb (r k) j) (h k)) n) m (λ k g. sym (sum-delta (h k) (r k) n (l k g)))
+    ∙ sum-fubini (λ k j. given (eqb (r k) j) (h k)) m n
+
 -- what at most one number below n is counted for is counted once at most
 pub sum-once : (P : ℕ → Bool) (b n : ℕ) → ((k l : ℕ) → k < n → l < n → P k ≡ true → P l ≡ true → k ≡ l) →
     sum (λ k. given (P k) b) n ≤ b
-unfolding sum
-sum-once P b zero once = omega arith
-sum-once P b (suc n) once =
-    by-bool (P n)
-    (λ e.
-    omega (
-      arith,
-      given-yes (P n) b e,
-      sum-zero (λ k. given (P k) b) n
-          (λ k l. by-bool (P k)
-          (λ f. absurd (omega (arith, once k n (omega arith) (omega arith) f e)))
-          (λ f. given-no (P k) b f)),
-    ))
-    (λ e. omega (arith, given-no (P n) b e, sum-once P b n (λ k l g h. once k l (omega arith) (omega arith))))
+sum-once P b n once =
+    by-any P n
+    (λ none. omega (arith, sum-zero (λ k. given (P k) b) n (λ k l. given-no (P k) b (none k l))))
+    (λ k l e.
+    let only = sum-le (λ j. given (P j) b) (λ j. given (eqb k j) b) n
+    (λ j g. given-sub (P j) (eqb k j) b (λ f. eq-eqb k j (once k j l g e f))) in
+    omega (arith, sum-delta b k n l))
+
+-- one number taken out of a sum
+pub sum-without : (U : ℕ → Bool) (y : ℕ) (f : ℕ → ℕ) (n : ℕ) → y < n → U y ≡ true →
+    sum (λ j. given (without U y j) (f j)) n + f y ≡ sum (λ j. given (U j) (f j)) n
+sum-without U y f n h e =
+    let left : ℕ → ℕ = λ j. given (without U y j) (f j) in
+    let out : ℕ → ℕ = λ j. given (eqb y j) (f y) in
+    let each = sum-ext (λ j. left j + out j) (λ j. given (U j) (f j)) n
+    (λ j _.
+    by-eq y j
+    (λ q. rw (← q, without-same U y, eq-eqb y y refl, e) (omega arith))
+    (λ q. rw (without-other U y j (λ z. q (sym z)), ne-eqb y j q) (omega arith))) in
+    omega (arith, sum-add left out n, sum-delta (f y) y n h)
+
+pub count-without : (U : ℕ → Bool) (y n : ℕ) → y < n → U y ≡ true → count (without U y) n + 1 ≡ count U n
+unfolding count
+count-without U y n l e = sum-without U y (λ _. 1) n l e
+
+pub count-zero : (P : ℕ → Bool) (n : ℕ) → count P n ≡ 0 → (j : ℕ) → j < n → P j ≡ false
+unfolding count
+count-zero P n h j l =
+    by-bool (P j)
+    (λ g. absurd (omega (arith, sum-ge (λ k. given (P k) 1) n j l, given-yes (P j) 1 g)))
+    (λ g. g)
 
 pub count-ext : (P Q : ℕ → Bool) (n : ℕ) → ((j : ℕ) → j < n → P j ≡ Q j) → count P n ≡ count Q n
 unfolding count

@@ -11,8 +11,7 @@ use lib.Count.{ones, trailingZeros, ones-step}
 use borrow.Author.Tests.{eqb-true, eqb-false, eq-eqb, ne-eqb, lt-ltb, le-ltb}
 use Rattle.counting.specs.Sum.{given, sum, count}
 use Rattle.counting.proofs.Cases.{by-bool, by-eq, by-le, not-both}
-use Rattle.counting.proofs.Sum.{without-same, without-other, given-no, sum-zero, sum-ext, sum-front, count-without}
-use Rattle.counting.proofs.Sum.{count-all}
+use Rattle.counting.proofs.Sum.{is-without, given-no, sum-zero, sum-ext, sum-front, count-without, count-all}
 use Rattle.marks.specs.inside.Marks.{marked, Whole, Next, Less, More}
 
 -- the lowest digit is 0 or 1
@@ -142,12 +141,7 @@ kept-less i s j m ne =
 pub less-by-worth : (i s : ℕ) → marked s i ≡ true → Less s i (s - 2 ^ i)
 less-by-worth i s m =
     record {
-      marks =
-          fun-ext
-          (λ j.
-          by-eq j i
-          (λ e. rw e (gone-less i s m ∙ sym (without-same (marked s) i)))
-          (λ e. kept-less i s j m e ∙ sym (without-other (marked s) i j e)));
+      marks = fun-ext (λ j. is-without (marked s) i j _ (λ e. rw e (gone-less i s m)) (kept-less i s j m));
       smaller = omega (arith, pow-pos i, worth i s m);
     }
 
