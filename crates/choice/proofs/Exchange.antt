@@ -52,7 +52,8 @@ module _ (tb : Table) (pos : Positive tb) where
         peels-compare r (without U y) (without U′ y) (max m q) (max m′ q) less (omega arith) (F .3),
       )
 
-  -- a row taken out, where the longest length grows by no more than that row's C and no first row is left shorter
+  -- a row taken out, and the longest length raised by at most that row's C, and to no more than any row that stands
+  -- lowest would raise it
   peels-without : (r : ℕ) (U : ℕ → Bool) (m m′ y : ℕ) → y < tb .n → U y ≡ true → pred m′ ≤ pred m + tb .C y →
       ((x q : ℕ) → Step tb U m x q → m′ ≤ max m q) → Peels tb (suc r) U m → Peels tb r (without U y) m′
   peels-without zero U m m′ y l e grows short F = tt

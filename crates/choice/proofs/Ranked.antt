@@ -1,13 +1,13 @@
 -- Laws of ranks: where the ranks greater than r are held once each and r rows are left, every such rank has its row.
 use Prim.Native.Nat.{ℕ, zero, suc, _+_, _-_, _≤_, _<_}
 use mathlib.Core.Path.{_≡_, ap, sym, _∙_}
-use mathlib.Core.Bool.{Bool, true, not}
+use mathlib.Core.Bool.{true}
 use native.Mathlib.Omega.{arith}
 use lib.Dec.{eqb}
 use borrow.Author.Tests.{eqb-true, eq-eqb, le-leb, lt-leb}
 use Rattle.counting.specs.Sum.{without, count}
-use Rattle.counting.proofs.Cases.{by-bool, by-le, not-both}
-use Rattle.counting.proofs.Search.{all, all-at, all-not}
+use Rattle.counting.proofs.Cases.{by-le, not-both}
+use Rattle.counting.proofs.Search.{by-any}
 use Rattle.counting.proofs.Sum.{is-without, count-without, count-all, count-ext, count-none}
 use Rattle.tables.specs.Table.{Table}
 use Rattle.tables.specs.Plan.{Plan, WellFormed}
@@ -23,15 +23,11 @@ pub record Ranked (tb : Table) (p : Plan) (r : ℕ) : Type 0 where
 pub holder {ℓ} : {X : Type ℓ} (p : Plan) (n s : ℕ) → ((y : ℕ) → y < n → p .rank y ≡ s → X) →
     (((j : ℕ) → j < n → ¬ (p .rank j ≡ s)) → X) → X
 holder p n s some none =
-    let other : ℕ → Bool = λ j. not (eqb (p .rank j) s) in
-    by-bool (all other n)
-    (λ e. none (λ j l h. not-both (other j) (ap not (eq-eqb (p .rank j) s h)) (all-at other n e j l)))
-    (λ e.
-    let r = all-not other n e in
-    some (r .0) (r .1) (by-bool (eqb (p .rank (r .0)) s) (λ t. eqb-true (p .rank (r .0)) s t)
-    (λ f. not-both (other (r .0)) (r .2) (ap not f))))
+    by-any (λ j. eqb (p .rank j) s) n
+    (λ no. none (λ j l h. not-both (eqb (p .rank j) s) (no j l) (eq-eqb (p .rank j) s h)))
+    (λ y l e. some y l (eqb-true (p .rank y) s e))
 
--- a row of another rank than s + 1 is placed at rank s if it is at rank s + 1
+-- to fill rank s + 1 changes nothing for a row of another rank
 unplaced-other : (p : Plan) (s j : ℕ) → ¬ (p .rank j ≡ suc s) → unplaced p s j ≡ unplaced p (suc s) j
 unplaced-other p s j ne =
     let a = p .rank j in

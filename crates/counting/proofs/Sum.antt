@@ -103,11 +103,9 @@ unfolding sum
 sum-delta x y zero l = absurd (omega arith)
 sum-delta x y (suc n) l =
     by-eq y n
-    (λ q. omega (
-      arith,
-      given-yes (eqb y n) x (eq-eqb y n q),
-      sum-zero (λ j. given (eqb y j) x) n (λ j g. given-no (eqb y j) x (ne-eqb y j (omega arith))),
-    ))
+    (λ q.
+    let others = sum-zero (λ j. given (eqb y j) x) n (λ j g. given-no (eqb y j) x (ne-eqb y j (omega arith))) in
+    omega (arith, given-yes (eqb y n) x (eq-eqb y n q)))
     (λ q. omega (arith, given-no (eqb y n) x (ne-eqb y n q), sum-delta x y n (omega arith)))
 
 pub sum-lt : (f g : ℕ → ℕ) (n k : ℕ) → ((j : ℕ) → j < n → f j ≤ g j) → k < n → f k < g k → sum f n < sum g n
@@ -134,13 +132,10 @@ pub sum-front : (f : ℕ → ℕ) (m n : ℕ) → m ≤ n → sum (λ k. given (
 sum-front f m n l =
     let q : m + (n - m) ≡ n = omega arith in
     let g : ℕ → ℕ = λ k. given (ltb k m) (f k) in
-    omega (
-      arith,
-      ap (sum g) q,
-      sum-shift g m (n - m),
-      sum-ext g f m (λ k h. given-yes (ltb k m) (f k) (lt-ltb k m h)),
-      sum-zero (λ v. g (m + v)) (n - m) (λ v _. given-no (ltb (m + v) m) (f (m + v)) (le-ltb (m + v) m (omega arith))),
-    )
+    let front = sum-ext g f m (λ k h. given-yes (ltb k m) (f k) (lt-ltb k m h)) in
+    let rest = sum-zero (λ v. g (m + v)) (n - m)
+    (λ v _. given-no (ltb (m + v) m) (f (m + v)) (le-ltb (m + v) m (omega arith))) in
+    omega (arith, ap (sum g) q, sum-shift g m (n - m))
 
 pub sum-fubini : (h : ℕ → ℕ → ℕ) (m n : ℕ) → sum (λ u. sum (h u) n) m ≡ sum (λ r. sum (λ u. h u r) m) n
 unfolding sum
