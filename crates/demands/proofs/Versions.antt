@@ -1,6 +1,6 @@
 -- The wrong versions are refuted, each on its named table: the answer that the promise allows there is known, and is
 -- the only one.
-use Prim.Native.Nat.{ℕ, _/_, _%_, _<_}
+use Prim.Native.Nat.{ℕ, _/_, _%_, _≤_, _<_}
 use mathlib.Core.Path.{_≡_, refl, ap}
 use mathlib.Core.Bool.{true}
 use mathlib.Core.List.{List, [], _∷_}
@@ -19,7 +19,8 @@ use Rattle.starred.proofs.Tests.{Test, less, both, each}
 use Rattle.starred.proofs.Clears.{table-test}
 use Rattle.starred.proofs.Figures.{starred-figures, further-figures}
 use Rattle.plan.proofs.Unique.{plan-unique}
-use Rattle.demands.specs.Versions.{Version, Words, Always, six, nine, BreaksOn, BreaksOnOneOf, RefusesEverything}
+use Rattle.demands.specs.Versions.{Version, Words, Always, six, six-marked, nine, BreaksOn, BreaksOnOneOf}
+use Rattle.demands.specs.Versions.{RefusesEverything}
 use Rattle.demands.specs.Versions.{GivesAFixedPlan, LeavesTheOutput, WritesOnARefusal, SearchesTheLowestOnly}
 use Rattle.demands.specs.Versions.{RanksByDeadline, RefusesByUtilisation, AllRefuted}
 
@@ -76,13 +77,26 @@ module _ (f : Version) where
   untouched w a =
       omega (arith, ap (λ (l : List ℕ). getD l 0 0) (on w second-table six refl), number-at (at-second a) 0)
 
-  -- (2,3,3) (2,3,3): refused 4
-  written : WritesOnARefusal f → BreaksOn overloaded-table six f
-  unfolding all words figures
-  written w a =
-      let e = plan-unique overloaded-table six _ _ a
-      (starred-figures .1 .1 .1 .1 .1 .1 .1 .1 .1 .1 .1 .1 .1 .1 .1 .0 six (omega arith)) in
-      on w overloaded-table six refl (omega (arith, number-of e)) (omega arith) (ap (λ (r : Result). r .out) e)
+  -- (2,3,3) (2,3,3): refused 4, and the output is as it was
+  at-overloaded : (out : List ℕ) → 6 ≤ length out → PlanAnswer overloaded-table out (f overloaded-table out) →
+      f overloaded-table out ≡ record { number = 4; place = 0; value = 0; out = out }
+  unfolding figures
+  at-overloaded out l a =
+      plan-unique overloaded-table out _ _ a
+      (starred-figures .1 .1 .1 .1 .1 .1 .1 .1 .1 .1 .1 .1 .1 .1 .1 .0 out l)
+
+  written : WritesOnARefusal f → BreaksOnOneOf overloaded-table six overloaded-table six-marked f
+  unfolding all words
+  written w a b =
+      let s = at-overloaded six (omega arith) a in
+      let t = at-overloaded six-marked (omega arith) b in
+      omega (
+        arith,
+        on (w .1) overloaded-table six refl (omega (arith, number-of s)) (omega arith),
+        on (w .1) overloaded-table six-marked refl (omega (arith, number-of t)) (omega arith),
+        number-at s 0,
+        number-at t 0,
+      )
 
   lowest-only : SearchesTheLowestOnly (λ rank i j. rank i < rank j) f → BreaksOn three-rows nine f
   unfolding all words

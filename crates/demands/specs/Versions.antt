@@ -44,9 +44,12 @@ GivesAFixedPlan f =
 abbrev pub LeavesTheOutput : Version → Type 0
 LeavesTheOutput f = Always (λ xs out. f xs out .out ≡ out)
 
--- against "Nothing lent is written": where it refuses, an output that has a place is not as it was lent
+-- against "Nothing lent is written": where it refuses, a number of its own stands at the front of an output that has a
+-- place, whatever stood there
 abbrev pub WritesOnARefusal : Version → Type 0
-WritesOnARefusal f = Always (λ xs out. 1 ≤ f xs out .number → 1 ≤ length out → f xs out .out ≡ out → ⊥)
+WritesOnARefusal f =
+    (own : List ℕ → ℕ)
+    × Always (λ xs out. 1 ≤ f xs out .number → 1 ≤ length out → getD (f xs out .out) 0 0 ≡ own xs)
 
 -- "searches at rank n only": in every table that it plans the rows that do not have rank n have the other ranks in
 -- table order, from the highest rank on or from the lowest
@@ -76,9 +79,12 @@ RefusesByUtilisation rounded whole f =
     length xs ≡ row-width * tb .n → Sound tb → planned-width * tb .n ≤ length out →
     (f xs out .number ≡ 4) ↔ (whole < sum (λ i. rounded (whole * tb .C i) (tb .T i)) (tb .n)))
 
--- outputs with room for two rows, and for three
+-- outputs with room for two rows, of zeros and with a 1 in front, and for three
 abbrev pub six : List ℕ
 six = 0 ∷ 0 ∷ 0 ∷ 0 ∷ 0 ∷ 0 ∷ []
+
+abbrev pub six-marked : List ℕ
+six-marked = 1 ∷ 0 ∷ 0 ∷ 0 ∷ 0 ∷ 0 ∷ []
 
 abbrev pub nine : List ℕ
 nine = 0 ∷ 0 ∷ 0 ∷ six
@@ -96,7 +102,7 @@ pub record AllRefuted : Type 0 where
   pub refuses : (f : Version) → RefusesEverything f → BreaksOn second-table six f
   pub fixed : (f : Version) → GivesAFixedPlan f → BreaksOnOneOf second-table six third-table six f
   pub untouched : (f : Version) → LeavesTheOutput f → BreaksOn second-table six f
-  pub written : (f : Version) → WritesOnARefusal f → BreaksOn overloaded-table six f
+  pub written : (f : Version) → WritesOnARefusal f → BreaksOnOneOf overloaded-table six overloaded-table six-marked f
   pub lowest-only : (f : Version) → SearchesTheLowestOnly (λ rank i j. rank i < rank j) f → BreaksOn three-rows nine f
   pub lowest-only-down : (f : Version) → SearchesTheLowestOnly (λ rank i j. rank j < rank i) f →
       BreaksOn urgent-first nine f
