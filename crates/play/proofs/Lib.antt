@@ -1,6 +1,5 @@
 -- The laws of the crate `play`.
 pub mod Standing
 pub mod Turn
-pub mod Answers
 pub mod Unique
 pub mod Within

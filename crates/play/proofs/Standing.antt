@@ -8,7 +8,7 @@ use native.Mathlib.Nat.{add-suc, add-zero}
 use lib.Dec.{leb}
 use borrow.Author.Tests.{le-leb, lt-leb, leb-true}
 use Rattle.counting.specs.Sum.{given, count}
-use Rattle.counting.proofs.Sum.{given-yes, given-no, given-sub, sum-lt}
+use Rattle.counting.proofs.Sum.{given-sub, sum-lt}
 use Rattle.counting.proofs.Cases.{by-bool, by-eq, by-le}
 use Rattle.tables.specs.Table.{Table, Sound, most}
 use Rattle.tables.specs.Plan.{Plan, WellFormed}

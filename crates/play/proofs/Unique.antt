@@ -25,23 +25,10 @@ finishes-unique tb p js out v w l m a b = (a .many ∙ sym (b .many), ext-getD 0
         (λ h. finish-unique tb p js k (getD l k 0) (getD m k 0) (a .finishes k h) (b .finishes k h))
 
 pub play-unique : (xs ps js out : List ℕ) (r s : Result) → PlayAnswer xs ps js out r → PlayAnswer xs ps js out s → r ≡ s
-play-unique xs ps js out r s a b =
+play-unique xs ps js out r s =
     let tb = tableOf xs in
     answered-unique
     (shape xs ∷ range xs ∷ plan-form tb ps ∷ jobs-shape js ∷ job-rules tb js ∷ room (jobsOf js .N) out ∷ [])
-    (PlayGiven tb (planOf ps) (jobsOf js) out)
-    out
-    r
-    s (
-      shape-place xs,
-      (
-        range-place xs,
-        (
-          plan-form-place tb ps,
-          (jobs-shape-place js, (job-rules-place tb js, (room-place (jobsOf js .N) out, tt))),
-        ),
-      ),
-    )
+    (PlayGiven tb (planOf ps) (jobsOf js) out) out r s
+    (search (shape-place, range-place, plan-form-place, jobs-shape-place, job-rules-place, room-place, tt))
     (λ _. finishes-unique tb (planOf ps) (jobsOf js) out)
-    a
-    b

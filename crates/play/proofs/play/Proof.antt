@@ -1,16 +1,15 @@
 -- `play` meets its contract: the checks of the table, then what `play_sound` answers.
 use Prim.Native.Nat.{ℕ, _*_}
-use mathlib.Core.Path.{_≡_, subst}
+use mathlib.Core.Path.{_≡_, refl, subst}
 use lib.ListN.{length}
 use borrow.Author.Needs.{needs}
 use mathlib.Core.List.{List}
+use mathlib.Core.Logic.{inl, inr}
 use Rattle.tables.specs.Table.{row-width}
 use Rattle.tables.specs.Refusal.{Clear}
 use Rattle.tables.specs.Checks.{shape, range}
 use Rattle.tables.specs.inside.Checked.{TableChecked}
-use Rattle.tables.specs.Answer.{resultOf}
 use Rattle.tables.proofs.Clear.{sound-of-clear}
-use Rattle.play.proofs.Answers.{play-shape, play-range, play-rest}
 use Rattle.play.proofs.play.Statement.{statement}
 use Rattle.play.proofs.play.Tie as tie
 
@@ -33,26 +32,22 @@ play-sound-requires c κs =
 returns : tie.Need-returns
 returns c =
     let e = c .before .before in
-    let a = e .before .before .before .before .before .args in
-    play-shape (a .table .now) (a .plan .now) (a .jobs .now) (a .out .now)
-    (subst (TableChecked (a .table .now)) (c .enum-told .given .1) (e .check-table .ensures))
+    let xs = e .before .before .before .before .before .args .table .now in
+    let h = subst (TableChecked xs) (c .enum-told .given .1) (e .check-table .ensures) in
+    inl (record { number = refl; place = h; value = refl; unwritten = refl })
 
 returns-2 : tie.Need-returns-2
 returns-2 c =
     let e = c .before .before .before in
-    let a = e .before .before .before .before .before .args in
-    let h = subst (TableChecked (a .table .now)) (c .before .checked .given .1) (e .check-table .ensures) in
-    play-range (a .table .now) (a .plan .now) (a .jobs .now) (a .out .now) (c .before .checked .given .0 .0) (h .0)
-    (h .1)
+    let xs = e .before .before .before .before .before .args .table .now in
+    let h = subst (TableChecked xs) (c .before .checked .given .1) (e .check-table .ensures) in
+    inr (h .0, inl (record { number = refl; place = h .1; value = refl; unwritten = refl }))
 
 returns-3 : tie.Need-returns-3
 returns-3 c =
     let d = c .before .before in
-    let k = d .before .before in
-    let a = s k .args in
-    play-rest (a .table .now) (a .plan .now) (a .jobs .now) (a .out .now)
-    (resultOf (d .play-sound .result) (d .play-sound .last .1 .1 .1 .1 .0))
-    (clear k .0) (clear k .1) (d .play-sound .ensures)
+    let k = clear (d .before .before) in
+    inr (k .0, inr (k .1, d .play-sound .ensures))
 
 pub play-spec : {M : Type 1} → statement M
 play-spec =

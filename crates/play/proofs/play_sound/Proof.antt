@@ -1,9 +1,11 @@
 -- `play_sound` meets its contract: the checks in their order, then what `finish_all` gives.
-use Prim.Native.Nat.{ℕ}
-use mathlib.Core.Path.{_≡_, subst}
+use Prim.Native.Nat.{ℕ, _≤_, _<_}
+use mathlib.Core.Path.{_≡_, refl, subst}
 use native.Mathlib.Omega.{arith}
+use lib.ListN.{length}
 use borrow.Author.Needs.{needs}
 use mathlib.Core.List.{List}
+use mathlib.Core.Logic.{inl, inr}
 use Rattle.tables.specs.Table.{Table, tableOf}
 use Rattle.tables.specs.Jobs.{jobsOf}
 use Rattle.tables.specs.inside.Rows.{tableIn}
@@ -12,7 +14,6 @@ use Rattle.tables.specs.Checks.{plan-form, jobs-shape, job-rules}
 use Rattle.tables.specs.inside.Checked.{PlanChecked}
 use Rattle.tables.proofs.Clear.{plan-of-clear, jobs-of-clear}
 use Rattle.joblist.specs.inside.Listed.{ListSaid}
-use Rattle.play.proofs.Answers.{rest-plan, rest-jobs, rest-job, rest-room, rest-given}
 use Rattle.play.proofs.play_sound.Statement.{statement}
 use Rattle.play.proofs.play_sound.Tie as tie
 
@@ -58,10 +59,10 @@ returns : tie.Need-returns
 returns c =
     let d = c .before .before .before in
     let s = d .before .before .before .before .before .before in
-    rest-plan (tb s) (ps s) (js s) (os s) (c .before .form .given .0 .0)
-    (subst (λ t. plan-form t (ps s) .hits (c .before .form .given .0 .0)) (d .before .rows-of .ensures)
-    (subst (PlanChecked (tableIn (d .before .rows-of .result) (s .args .n)) (ps s)) (c .before .form .given .1)
-    (d .check-plan .ensures)))
+    let at = c .before .form .given in
+    let h = subst (λ t. plan-form t (ps s) .hits (at .0 .0)) (d .before .rows-of .ensures)
+    (subst (PlanChecked (tableIn (d .before .rows-of .result) (s .args .n)) (ps s)) (at .1) (d .check-plan .ensures)) in
+    inl (record { number = refl; place = h; value = refl; unwritten = refl })
 
 check-jobs-requires : tie.Need-check-jobs-requires
 check-jobs-requires c κs = omega (arith, s c .pre .0 .few, s c .pre .1)
@@ -71,7 +72,8 @@ returns-2 c =
     let k = c .before in
     let b = s (f k) in
     let l = listed k in
-    rest-room (tb b) (ps b) (js b) (os b) (form (f k)) (l .1) (l .2) (omega (arith, l .0, c .if1 .taken))
+    let short : length (os b) < jobsOf (js b) .N = omega (arith, c .if1 .taken) in
+    inr (form (f k), inr (l .1, inr (l .2, inl (search needs))))
 
 finish-all-requires : tie.Need-finish-all-requires
 finish-all-requires c κs =
@@ -88,15 +90,15 @@ returns-3 : tie.Need-returns-3
 returns-3 c =
     let d = c .before .before in
     let b = s (d .before) in
-    rest-jobs (tb b) (ps b) (js b) (os b) (form (d .before))
-    (subst (ListSaid (tb b) (js b)) (c .enum-told2 .given .1) (d .check-jobs .ensures))
+    let h = subst (ListSaid (tb b) (js b)) (c .enum-told2 .given .1) (d .check-jobs .ensures) in
+    inr (form (d .before), inl (record { number = refl; place = h; value = refl; unwritten = refl }))
 
 returns-4 : tie.Need-returns-4
 returns-4 c =
     let d = c .before .before .before in
     let b = s (d .before) in
     let h = subst (ListSaid (tb b) (js b)) (c .before .listed .given .1) (d .check-jobs .ensures) in
-    rest-job (tb b) (ps b) (js b) (os b) (form (d .before)) (h .0) (c .before .listed .given .0 .0) (h .1)
+    inr (form (d .before), inr (h .0, inl (record { number = refl; place = h .1; value = refl; unwritten = refl })))
 
 returns-5 : tie.Need-returns-5
 returns-5 c =
@@ -104,8 +106,9 @@ returns-5 c =
     let k = d .before .before .before in
     let b = s (f k) in
     let l = listed k in
-    rest-given (tb b) (ps b) (js b) (os b) (form (f k)) (l .1) (l .2) (many k) (d .finish-all .last .1 .1 .1 .0)
-    (omega (arith, l .0, d .before .before .if1 .left)) (l .0) (d .finish-all .ensures)
+    let fits : jobsOf (js b) .N ≤ length (os b) = omega (arith, d .before .before .if1 .left) in
+    let all = d .finish-all .ensures in
+    inr (form (f k), inr (l .1, inr (l .2, inr (λ _ h. omega (arith, h .1), search needs))))
 
 pub play-sound-spec : {M : Type 1} → statement M
 play-sound-spec =
