@@ -181,8 +181,7 @@ module _ (tb : Table) (sound : Sound tb) (p : Plan) (wf : WellFormed tb p) (js :
     until : js .release k < js .release j
 
   earlier-to : (k : ℕ) → Earlier k → earlier k ≡ true
-  earlier-to k h =
-      and-both _ _ (eq-eqb _ _ (h .row)) (and-both _ _ (le-leb _ _ (h .from)) (lt-ltb _ _ (h .until)))
+  earlier-to k h = and-both _ _ (eq-eqb _ _ (h .row)) (and-both _ _ (le-leb _ _ (h .from)) (lt-ltb _ _ (h .until)))
 
   earlier-of : (k : ℕ) → earlier k ≡ true → Earlier k
   earlier-of k e =

@@ -50,8 +50,7 @@ module _ (tb : Table) (p : Plan) (js : Jobs) (r : ℕ) where
   -- so a tick in which a job runs is a tick of the one or of the other
   one-tick : (t c : ℕ) → X.runs tb p js t ≡ job c →
       work level (suc t) + work lower (suc t) ≡ suc (work level t + work lower t)
-  one-tick t c q =
-      omega (arith, X.work-step tb p js level t c q, X.work-step tb p js lower t c q, one-class c)
+  one-tick t c q = omega (arith, X.work-step tb p js level t c q, X.work-step tb p js lower t c q, one-class c)
 
   -- no more ticks are executed than there are
   pub work-most : (t : ℕ) → work level t + work lower t ≤ t
@@ -192,11 +191,7 @@ module _ (tb : Table) (p : Plan) (js : Jobs) (r : ℕ) where
         rw (R.runs-on-to tb p js (E t₀) k (record { left = omega arith; held = held }))
         (omega (arith, short k (E t₀ k) (z .many) l h (omega arith) (z .held))))))
         (λ e. rw e (omega arith)) in
-        omega (
-          arith,
-          sum-le (λ k. given (lower k) (E (t₀ + d) k)) (λ k. given (lower k) (E t₀ k) + given (on k) b) (js .N) each,
-          sum-add (λ k. given (lower k) (E t₀ k)) (λ k. given (on k) b) (js .N),
-          sum-once on b (js .N)
-              (λ k l g h a c. X.runs-on-once tb p js new t₀ k l g h (R.runs-on-of tb p js (E t₀) k a)
-              (R.runs-on-of tb p js (E t₀) l c)),
-        )
+        let of : (k : ℕ) → on k ≡ true → R.RunsOn tb p js (E t₀) k = R.runs-on-of tb p js (E t₀) in
+        let one = sum-once on b (js .N) (λ k l g h a c. X.runs-on-once tb p js new t₀ k l g h (of k a) (of l c)) in
+        let le = sum-le _ _ (js .N) each in
+        omega (arith, sum-add (λ k. given (lower k) (E t₀ k)) (λ k. given (on k) b) (js .N))

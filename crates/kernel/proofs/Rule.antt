@@ -16,14 +16,6 @@ use Rattle.tables.specs.Plan.{Plan, WellFormed}
 use Rattle.tables.specs.Jobs.{Jobs, Lawful}
 use Rattle.kernel.specs.Rule.{Pick, job, idle, one-of, locked, unfinished, runs-on, pending, ahead, leads, pick}
 
-one-of-hit : (P : ℕ → Bool) (n : ℕ) (other : Pick) → P n ≡ true → one-of P (suc n) other ≡ job n
-unfolding one-of
-one-of-hit P n other e = rw (e, one-of)
-
-one-of-miss : (P : ℕ → Bool) (n : ℕ) (other : Pick) → P n ≡ false → one-of P (suc n) other ≡ one-of P n other
-unfolding one-of
-one-of-miss P n other e = rw (e, one-of)
-
 -- a job that passes, or the other pick where none does
 one-of-is {ℓ} : {X : Type ℓ} (P : ℕ → Bool) (n : ℕ) (other : Pick) →
     ((k : ℕ) → k < n → P k ≡ true → one-of P n other ≡ job k → X) →
@@ -33,9 +25,9 @@ unfolding one-of
 one-of-is P zero other f g = g (λ k l. absurd (omega arith)) refl
 one-of-is P (suc n) other f g =
     by-bool (P n)
-    (λ e. f n (omega arith) e (one-of-hit P n other e))
+    (λ e. f n (omega arith) e (rw (e, one-of)))
     (λ e.
-    let m = one-of-miss P n other e in
+    let m : one-of P (suc n) other ≡ one-of P n other = rw (e, one-of) in
     one-of-is P n other
     (λ k l h q. f k (omega arith) h (m ∙ q))
     (λ h q. g (λ k l. by-eq k n (λ z. ap P z ∙ e) (λ z. h k (omega arith))) (m ∙ q)))
@@ -96,9 +88,6 @@ module _ (tb : Table) (p : Plan) (js : Jobs) (x : ℕ → ℕ) where
     pub highest : (l : ℕ) → l < js .N → Pending t l → p .rank (js .row k) ≤ p .rank (js .row l)
     pub earliest : (l : ℕ) → l < js .N → Pending t l → js .row l ≡ js .row k → js .release k ≤ js .release l
 
-  ahead-rank : (l k : ℕ) → p .rank (js .row l) < p .rank (js .row k) → ahead tb p js x l k ≡ true
-  ahead-rank l k h = or-left _ _ (lt-ltb _ _ h)
-
   ahead-release : (l k : ℕ) → js .row l ≡ js .row k → js .release l < js .release k → ahead tb p js x l k ≡ true
   ahead-release l k e h =
       or-right (ltb (p .rank (js .row l)) (p .rank (js .row k))) _ (and-both _ _ (eq-eqb _ _ e) (lt-ltb _ _ h))
@@ -120,7 +109,7 @@ module _ (tb : Table) (p : Plan) (js : Jobs) (x : ℕ → ℕ) where
       λ l h pe a. not-both (others l) (none l h) (and-both (pending l) _ (pending-to t l pe) a) in
       record {
         pends = pending-of t k (and-left (pending k) _ e);
-        highest = λ l h pe. by-le _ _ (λ g. g) (λ g. absurd (not l h pe (ahead-rank l k g)));
+        highest = λ l h pe. by-le _ _ (λ g. g) (λ g. absurd (not l h pe (or-left _ _ (lt-ltb _ _ g))));
         earliest = λ l h pe r. by-le _ _ (λ g. g) (λ g. absurd (not l h pe (ahead-release l k r g)));
       }
 

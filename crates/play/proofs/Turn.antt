@@ -9,9 +9,7 @@ use borrow.Author.Needs.{needs}
 use lib.ListN.{length, getD, set, drop, replicate, length-replicate}
 use lib.Seq.{getD-set-same, getD-set-other, drop-set-lt}
 use lib.Dec.{leb}
-use mathlib.Core.Bool.{true}
-use Rattle.counting.specs.Sum.{given, count}
-use Rattle.counting.proofs.Sum.{sum-le, given-sub, count-all}
+use Rattle.counting.proofs.Sum.{count-le}
 use Rattle.counting.proofs.Cases.{by-eq}
 use Rattle.tables.specs.Table.{Table, Sound, most, most-rows}
 use Rattle.tables.specs.Plan.{Plan, WellFormed}
@@ -51,14 +49,7 @@ turns js heads next = S.unplayed js (at heads) + (js .N - next)
 
 -- two a job at most
 pub turns-most : (js : Jobs) (heads : List ℕ) (next : ℕ) → turns js heads next ≤ 2 * js .N
-unfolding count
-turns-most js heads next =
-    omega (
-      arith,
-      sum-le (λ k. given (leb (at heads (js .row k)) k) 1) (λ k. given true 1) (js .N)
-          (λ k _. given-sub (leb (at heads (js .row k)) k) true 1 (λ _. refl)),
-      count-all (js .N),
-    )
+turns-most js heads next = omega (arith, count-le (λ k. leb (at heads (js .row k)) k) (js .N))
 
 pub turns-fall : (js : Jobs) (next t t′ next′ : ℕ) (heads heads′ : List ℕ) → Gained js next t t′ heads heads′ →
     Released js next t′ next′ →

@@ -9,8 +9,7 @@ use Rattle.decision.proofs.following.Statement.{statement}
 use Rattle.decision.proofs.following.Tie as tie
 
 abbrev Inv-loop : tie.InvT-loop
-Inv-loop jobs i from many k₀ k =
-    (from ≤ k) × (k ≤ many) × ((l : ℕ) → from ≤ l → l < k → jobsOf jobs .row l ≡ i → ⊥)
+Inv-loop jobs i from many k₀ k = (from ≤ k) × (k ≤ many) × ((l : ℕ) → from ≤ l → l < k → jobsOf jobs .row l ≡ i → ⊥)
 
 abbrev μ-loop : tie.MeasureT-loop
 μ-loop jobs i from many k₀ k = many - k

@@ -8,8 +8,7 @@ use Rattle.decision.proofs.released.Statement.{statement}
 use Rattle.decision.proofs.released.Tie as tie
 
 abbrev Inv-loop : tie.InvT-loop
-Inv-loop jobs from t many k₀ k =
-    (from ≤ k) × (k ≤ many) × ((l : ℕ) → from ≤ l → l < k → jobsOf jobs .release l ≤ t)
+Inv-loop jobs from t many k₀ k = (from ≤ k) × (k ≤ many) × ((l : ℕ) → from ≤ l → l < k → jobsOf jobs .release l ≤ t)
 
 abbrev μ-loop : tie.MeasureT-loop
 μ-loop jobs from t many k₀ k = many - k
