@@ -16,7 +16,7 @@ abbrev μ-loop : tie.MeasureT-loop
 loop-again : tie.Need-loop-again Inv-loop μ-loop
 loop-again c =
     let l = c .before .before .before .loop in
-    (omega arith, omega arith, λ j a b. by-eq j (l .k) (λ q. rw q (c .if1 .left)) (λ q. l .inv .2 j a (omega arith)))
+    (omega arith, omega arith, λ j a b. by-eq j (l .k) (λ q. rw q (omega arith)) (λ q. l .inv .2 j a (omega arith)))
 
 pub released-spec : {M : Type 1} → statement M
 released-spec =
