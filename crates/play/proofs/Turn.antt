@@ -55,13 +55,12 @@ pub turns-fall : (js : Jobs) (next t t′ next′ : ℕ) (heads heads′ : List 
     Released js next t′ next′ →
     turns js heads′ next′ < turns js heads next
 turns-fall js next t t′ next′ heads heads′ g r =
-    ⊎-elim
-    (λ h. omega (arith, r .low))
-    (λ (h : (S.unplayed js (at heads′) ≡ S.unplayed js (at heads)) × (next < js .N) × (js .release next ≤ t′)).
-    by-eq next′ next
-    (λ e. absurd (omega (arith, r .waits (omega (arith, h .1)), ap (js .release) e, h .2)))
-    (λ e. omega (arith, r .low, h .0, h .1)))
-    (g .gain)
+    elim (g .gain) [
+      | inl h ↦ omega (arith, r .low)
+      | inr h ↦ by-eq next′ next
+          (λ e. absurd (omega (arith, r .waits (omega arith), ap (js .release) e)))
+          (λ e. omega (arith, r .low))
+    ]
 
 -- row i's earliest unfinished job runs
 pub record Running (tb : Table) (js : Jobs) (t : ℕ) (heads done : List ℕ) (i : ℕ) : Type 0 where
@@ -80,22 +79,18 @@ pub record Decided (tb : Table) (p : Plan) (js : Jobs) (out₀ : List ℕ) (t ne
   pub idles : tb .n ≤ i → next < js .N →
       Playing tb p js out₀ (js .release next) heads done out × Gained js next t (js .release next) heads heads
   pub runs : i < tb .n → Running tb js t heads done i
-  pub goes-on : i < tb .n → (d : ℕ) → Stretch js next t (js .run (at heads i) - at done i) (locked tb p i (at done i))
-      d →
+  pub goes-on : i < tb .n → (d : ℕ) →
+      Stretch js next t (js .run (at heads i) - at done i) (locked tb p i (at done i)) d →
       at done i + d < js .run (at heads i) →
       Playing tb p js out₀ (t + d) heads (set done i (at done i + d)) out × Gained js next t (t + d) heads heads
-  pub finishes : i < tb .n → (d k : ℕ) → Stretch js next t (js .run (at heads i) - at done i)
-      (locked tb p i (at done i)) d →
+  pub finishes : i < tb .n → (d k : ℕ) →
+      Stretch js next t (js .run (at heads i) - at done i) (locked tb p i (at done i)) d →
       js .run (at heads i) ≤ at done i + d → js .N ≤ length out → Following js i (at heads i + 1) k →
       Playing tb p js out₀ (t + d) (set heads i k) (set done i 0) (set out (at heads i) (t + d))
       × Gained js next t (t + d) heads (set heads i k)
 
 module _ (tb : Table) (p : Plan) (js : Jobs) (sound : Sound tb) (wf : WellFormed tb p) (wfj : WellFormedJobs tb js)
     (out₀ : List ℕ) where
-  pub next-turn : (next t t′ next′ : ℕ) (heads heads′ : List ℕ) → S.Next js t next → Gained js next t t′ heads heads′ →
-      Released js next t′ next′ → S.Next js t′ next′
-  next-turn next t t′ next′ heads heads′ nx g r = S.next-on tb js wfj t t′ next next′ (g .later) (nx .came) r
-
   pub starts : (heads : List ℕ) (next : ℕ) → Heads js (tb .n) heads → Released js 0 0 next →
       Playing tb p js out₀ 0 heads (replicate most-rows 0) out₀ × S.Next js 0 next
   starts heads next h r = (
@@ -138,18 +133,17 @@ module _ (tb : Table) (p : Plan) (js : Jobs) (sound : Sound tb) (wf : WellFormed
       first : (j : ℕ) → j < tb .n → at heads j < next → urgency tb p i (at done i) ≤ urgency tb p j (at done j)
       first j h w = fm .first j h w .1
 
-      head-within : c < js .N
-      head-within = omega (arith, fm .waits il, nx .high)
-
-      head-left : at done i < js .run c
-      head-left = S.left-head sound wf wfj nx (pl .standing) i il (fm .waits il) first
-
-      head-in-time : t + (js .run c - at done i) ≤ last-release + most-jobs * most
-      head-in-time = S.in-time sound wf wfj nx (pl .standing) i il (fm .waits il) first
-
-      head-small : js .run c ≤ most
-      head-small =
-          omega (arith, wfj .lawful .run-high c head-within, sound .C (js .row c) (wfj .lawful .row c head-within))
+      running : Running tb js t heads done i
+      running =
+          let job : c < js .N = omega (arith, fm .waits il, nx .high) in
+          record {
+            row = il;
+            place = omega (arith, sound .few);
+            job = job;
+            left = S.left-head sound wf wfj nx (pl .standing) i il (fm .waits il) first;
+            small = omega (arith, wfj .lawful .run-high c job, sound .C (js .row c) (wfj .lawful .row c job));
+            in-time = S.in-time sound wf wfj nx (pl .standing) i il (fm .waits il) first;
+          }
 
       module _ (d : ℕ) (stretch : Stretch js next t (js .run c - at done i) (locked tb p i (at done i)) d) where
         abbrev e : ℕ
@@ -164,7 +158,7 @@ module _ (tb : Table) (p : Plan) (js : Jobs) (sound : Sound tb) (wf : WellFormed
             let same = done-same (e + d) in
             let other = set-other done i (e + d) in
             let small : (j : ℕ) → j < tb .n → at (set done i (e + d)) j ≤ most =
-            λ j l. by-eq j i (λ q. rw (q, same) (omega (arith, head-small))) (λ q. rw (other j q) (pl .small j l)) in
+            λ j l. by-eq j i (λ q. rw (q, same) (omega (arith, running))) (λ q. rw (other j q) (pl .small j l)) in
             let st = S.stands-on sound wf wfj nx (pl .standing) i il (fm .waits il) first d stretch
             (at (set done i (e + d))) h same other in
             let gained : Gained js next t (t + d) heads heads = record {
@@ -180,17 +174,17 @@ module _ (tb : Table) (p : Plan) (js : Jobs) (sound : Sound tb) (wf : WellFormed
             let heads-same = getD-set-same heads i k 0 (omega (arith, pl .heads-places, sound .few)) in
             let follows : Following js i (c + 1) (at (set heads i k) i) = rw heads-same fol in
             let other = set-other done i 0 in
-            let new = getD-set-same out c (t + d) 0 (omega (arith, head-within)) in
+            let new = getD-set-same out c (t + d) 0 (omega (arith, running)) in
             let small : (j : ℕ) → j < tb .n → at (set done i 0) j ≤ most =
             λ j l. by-eq j i (λ q. rw (q, done-same 0) (omega arith)) (λ q. rw (other j q) (pl .small j l)) in
             let st = S.stands-after sound wf wfj nx (pl .standing) i il (fm .waits il) first d stretch
             (at (set heads i k)) (at (set done i 0)) (at (set out c (t + d)))
-            (omega (arith, stretch .within, head-left)) follows (set-other heads i k) (done-same 0) other new
+            (omega (arith, stretch .within, running)) follows (set-other heads i k) (done-same 0) other new
             (set-other out c (t + d)) in
             let fewer = S.fewer sound wf wfj nx (pl .standing) i il (fm .waits il) first d stretch
             (at (set heads i k)) follows (set-other heads i k) in
             let rest : drop (js .N) (set out c (t + d)) ≡ drop (js .N) out₀ =
-            drop-set-lt (js .N) out c (t + d) head-within ∙ pl .rest in
+            drop-set-lt (js .N) out c (t + d) (running .job) ∙ pl .rest in
             (search needs, record { later = omega arith; gain = inl fewer })
 
     pub decided : Decided tb p js out₀ t next heads done out i
@@ -198,15 +192,7 @@ module _ (tb : Table) (p : Plan) (js : Jobs) (sound : Sound tb) (wf : WellFormed
         record {
           over = turn-last;
           idles = turn-idle;
-          runs =
-              λ il. record {
-                row = il;
-                place = omega (arith, sound .few);
-                job = head-within il;
-                left = head-left il;
-                small = head-small il;
-                in-time = head-in-time il;
-              };
+          runs = running;
           goes-on = turn-on;
           finishes = λ il d k st. turn-after il d st k;
         }

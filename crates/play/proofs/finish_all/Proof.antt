@@ -12,7 +12,7 @@ use Rattle.decision.specs.inside.Decision.{Stretch}
 use Rattle.tables.specs.Table.{Table, tableOf}
 use Rattle.tables.specs.Plan.{Plan, planOf}
 use Rattle.tables.specs.Jobs.{Jobs, jobsOf}
-use Rattle.play.proofs.Standing.{Next}
+use Rattle.play.proofs.Standing.{Next, next-on}
 use Rattle.play.proofs.Turn.{at, Playing, Gained, Running, Decided, turns}
 use Rattle.play.proofs.finish_all.Statement.{statement}
 use Rattle.play.proofs.Turn as T
@@ -137,11 +137,8 @@ loop-again : tie.Need-loop-again Inv-loop μ-loop
 loop-again c =
     let d = decided (c .before) in
     let b = c .before .before in
-    let l = h b .loop in (
-      d .0,
-      T.next-turn (tb b) (p b) (js b) (s b .pre .0 .sound) (s b .pre .0 .formed) (s b .pre .1) (s b .args .out .now)
-          (l .next) (l .t) _ _ (l .heads) _ (l .inv .1) (d .1) (c .released2 .ensures),
-    )
+    let n = h b .loop .inv .1 .came in
+    (d .0, next-on (tb b) (js b) (s b .pre .1) _ _ _ _ (d .1 .later) n (c .released2 .ensures))
 
 pub finish-all-spec : {M : Type 1} → statement M
 finish-all-spec =
