@@ -31,8 +31,8 @@ use Rattle.bounds.proofs.Window as W
 
 -- a job below rank r is locked for no more ticks than the blocking
 pub locked-short : (tb : Table) (p : Plan) (js : Jobs) → WellFormed tb p → Lawful tb js → (r k e n : ℕ) → k < js .N →
-    r < p .rank (js .row k) →
-    e + n ≤ js .run k → ((y : ℕ) → y < n → locked tb p (js .row k) (e + y) ≡ true) → n ≤ blocking tb p r
+    r < p .rank (js .row k) → e + n ≤ js .run k → ((y : ℕ) → y < n → locked tb p (js .row k) (e + y) ≡ true) →
+    n ≤ blocking tb p r
 locked-short tb p js wf lawful r k e n l h fits held =
     let i = js .row k in
     by-eq n 0
@@ -77,9 +77,6 @@ module _ (tb : Table) (sound : Sound tb) (p : Plan) (wf : WellFormed tb p) (js :
   abbrev level : ℕ → Bool
   level = Lv.level tb p js r
 
-  abbrev lower : ℕ → Bool
-  lower = Lv.lower tb p js r
-
   abbrev work : (ℕ → Bool) → ℕ → ℕ
   work = Lv.work tb p js r
 
@@ -96,7 +93,7 @@ module _ (tb : Table) (sound : Sound tb) (p : Plan) (wf : WellFormed tb p) (js :
       let below = Lv.lower-work tb p js r t₀ new B (locked-short tb p js wf lawful r) d b in
       omega (arith, Lv.busy-work tb p js r t₀ d b)
 
-  -- what the level executes since t₀ is at most what its jobs do
+  -- a bound on what the jobs of the level execute since t₀, for each term of their sum; and where one stays below it
   each : (t : ℕ) (f : ℕ → ℕ) → ((k : ℕ) → k < js .N → p .rank (js .row k) ≤ r → E t k ≤ E t₀ k + f k) →
       (k : ℕ) → k < js .N → given (level k) (E t k) ≤ given (level k) (E t₀ k) + f k
   each t f h k l = by-bool (level k) (λ e. rw e (h k l (leb-true _ _ e))) (λ e. rw e (omega arith))

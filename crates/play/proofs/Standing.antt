@@ -66,8 +66,7 @@ stands tb p js head done out wfj first zeros =
 
 -- the releases from tick t to a later tick
 pub next-on : (tb : Table) (js : Jobs) → WellFormedJobs tb js → (t u from next : ℕ) → t ≤ u →
-    ((k : ℕ) → k < from → js .release k ≤ t) →
-    Released js from u next → Next js u next
+    ((k : ℕ) → k < from → js .release k ≤ t) → Released js from u next → Next js u next
 next-on tb js wfj t u from next h came r =
     record {
       high = r .high;

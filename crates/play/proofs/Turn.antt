@@ -52,8 +52,7 @@ pub turns-most : (js : Jobs) (heads : List ℕ) (next : ℕ) → turns js heads 
 turns-most js heads next = omega (arith, count-le (λ k. leb (at heads (js .row k)) k) (js .N))
 
 pub turns-fall : (js : Jobs) (next t t′ next′ : ℕ) (heads heads′ : List ℕ) → Gained js next t t′ heads heads′ →
-    Released js next t′ next′ →
-    turns js heads′ next′ < turns js heads next
+    Released js next t′ next′ → turns js heads′ next′ < turns js heads next
 turns-fall js next t t′ next′ heads heads′ g r =
     elim (g .gain) [
       | inl h ↦ omega (arith, r .low)
