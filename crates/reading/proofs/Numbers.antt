@@ -24,16 +24,16 @@ Ends end v (b ∷ s) w =
 
 module _ (end : ℕ) (other : end < nought) where
   -- the digits of v in front of a text, put there and taken off again
-  in-front : (k v w : ℕ) (t : List ℕ) → v ≤ k →
+  front : (k v w : ℕ) (t : List ℕ) → v ≤ k →
       (Ends end v t w → Ends end 0 (digits v ++ t) w) × (Ends end 0 (digits v ++ t) w → Ends end v t w)
-  in-front zero v w t h = let z : v ≡ 0 = omega arith in rw (z, digits-zero) ((λ e. e), (λ e. e))
-  in-front (suc k) v w t h =
+  front zero v w t h = let z : v ≡ 0 = omega arith in rw (z, digits-zero) ((λ e. e), (λ e. e))
+  front (suc k) v w t h =
       by-eq v 0
       (λ z. rw (z, digits-zero) ((λ e. e), (λ e. e)))
       (λ z.
       let digit : Digit (nought + v % 10) (v % 10) = record { small = omega arith; byte = refl } in
       let last : 10 * (v / 10) + v % 10 ≡ v = omega arith in
-      let f = in-front k (v / 10) w ((nought + v % 10) ∷ t) (omega arith) in
+      let f = front k (v / 10) w ((nought + v % 10) ∷ t) (omega arith) in
       rw (digits-last v (omega arith), append-assoc) (
         (λ e. f .0 (inr (v % 10, digit, omega arith, rw last e))),
         (λ e. ⊎-elim
@@ -48,11 +48,11 @@ module _ (end : ℕ) (other : end < nought) where
 
   -- the text of a number
   number-ends : (w : ℕ) (y : List ℕ) → 1 ≤ w → Ends end 0 ((decimal w ++ end ∷ []) ++ y) w
-  number-ends w y h = rw (decimal-digits w h, append-assoc) (in-front w w w (end ∷ y) (omega arith) .0 (inl (refl, refl)))
+  number-ends w y h = rw (decimal-digits w h, append-assoc) (front w w w (end ∷ y) (omega arith) .0 (inl (refl, refl)))
 
   -- what stands behind the digits of v, where the text of a number w begins with them
   next : (v w : ℕ) (t y : List ℕ) → 1 ≤ w → digits v ++ t ≡ (decimal w ++ end ∷ []) ++ y → Ends end v t w
-  next v w t y h e = in-front v v w t (omega arith) .1 (rw (← e) at (number-ends w y h))
+  next v w t y h e = front v v w t (omega arith) .1 (rw (← e) at (number-ends w y h))
 
   -- only 0 begins with the digit 0
   pub zero-differs : (w : ℕ) (x y : List ℕ) → 1 ≤ w → decimal 0 ++ (end ∷ x) ≡ decimal w ++ (end ∷ y) → ⊥
@@ -70,9 +70,10 @@ module _ (end : ℕ) (other : end < nought) where
   module _ (most v : ℕ) (s t : List ℕ) (some : 1 ≤ most) (high : v ≤ most) (split : s ≡ digits v ++ t) where
     begun : (w : ℕ) × Between most w × Begins (take (length (digits v)) s) (decimal w ++ end ∷ [])
     begun =
+        let all : take (length (digits v)) s ≡ digits v = rw (split, take-append-seam) in
         by-eq v 0
-        (λ z. (1, record { low = omega arith; high = some }, (decimal 1 ++ end ∷ [], rw (split, take-append-seam, z, digits-zero))))
-        (λ z. (v, record { low = omega arith; high = high }, (end ∷ [], rw (split, take-append-seam, decimal-digits v (omega arith)))))
+        (λ z. (1, record { low = omega arith; high = some }, (decimal 1 ++ end ∷ [], rw (all, z, digits-zero))))
+        (λ z. (v, record { low = omega arith; high = high }, (end ∷ [], rw (all, decimal-digits v (omega arith)))))
 
     long : length s ≡ length (digits v) + length t
     long = rw (split, length-append)

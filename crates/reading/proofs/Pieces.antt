@@ -64,7 +64,8 @@ module _ (P Q : Piece) where
       let front : (m : ℕ) → take (length (P .text a) + m) s ≡ P .text a ++ take m t = λ m. rw (e, take-append-add) in
       record {
         within = omega arith;
-        begun = ((a, h .begun .0), (ha, h .begun .1), rw (front p) (begins-behind (P .text a) (take p t) (h .begun .2)));
+        begun =
+            let g = h .begun in ((a, g .0), (ha, g .1), rw (front p) (begins-behind (P .text a) (take p t) (g .2)));
         no-more = λ l v hv y g.
             let f = simp append-assoc at (rw (← add-suc, front (suc p)) at (g .1)) in
             h .no-more (omega arith) (v .1) (hv .1) y (

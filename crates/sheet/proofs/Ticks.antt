@@ -35,5 +35,6 @@ row-more tick n ts t before table row e f g =
     let m : row-width * n + 3 ≡ row-width * (n + 1) = omega arith in
     let long : length (ticksOf tick ts) ≡ row-width * n = omega (arith, length-ticks tick ts) in
     let rest = drop (row-width * n) before in
-    rw (k, f, g, take-at (ticksOf tick ts) rest (row-width * n) long, drop-at (ticksOf tick ts) rest (row-width * n) long)
-    (rw (drop-drop 3 (row-width * n) before, m, ticks-more tick ts t) (simp append-assoc))
+    let front = take-at (ticksOf tick ts) rest (row-width * n) long in
+    let behind = drop-at (ticksOf tick ts) rest (row-width * n) long in
+    rw (k, f, g, front, behind, drop-drop 3 (row-width * n) before, m, ticks-more tick ts t) (simp append-assoc)

@@ -1,5 +1,5 @@
 -- The struct that says an answer stands for the answer's own result, and one result has one struct.
-use mathlib.Core.Path.{_≡_, ap}
+use mathlib.Core.Path.{_≡_, refl, ap}
 use mathlib.Core.List.{List}
 use Prim.Native.Nat.{ℕ}
 use Rattle.tables.specs.Answer.{numberOf, placeOf, valueOf, resultOf}
@@ -12,14 +12,9 @@ use Rattle.templetbark.specs.Said.{saidOf}
 -- what holds of the answer's result holds of what is said
 pub said : (P : Result → Type 0) (a : Answer) (s : Said) (out : List ℕ) →
     (s .number ≡ numberOf a) × (s .place ≡ placeOf a) × (s .value ≡ valueOf a) → P (resultOf a out) → P (saidOf s out)
-said P a s out e h =
-    let same = result-same (saidOf s out) (resultOf a out) (e .0) (e .1) (e .2) (let r : out ≡ out = λ i. out in r) in
-    rw same h
+said P a s out e h = rw (result-same (saidOf s out) (resultOf a out) (e .0) (e .1) (e .2) refl) h
 
 -- where an operation has one result, it says one struct and leaves one later content of its output
 pub said-once : (r s : Said) (l m : List ℕ) → saidOf r l ≡ saidOf s m → (r ≡ s) × (l ≡ m)
-said-once r s l m e = (
-  (λ i. record { number = e i .number; place = e i .place; value = e i .value }),
-  ap
-      (λ (x : Result). x .out) e,
-)
+said-once r s l m e =
+    ((λ i. record { number = e i .number; place = e i .place; value = e i .value }), ap (λ (x : Result). x .out) e)

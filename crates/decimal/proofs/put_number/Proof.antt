@@ -71,7 +71,7 @@ within h = let p = h .before .before .before .pre in omega (arith, same (h .loop
 
 sub-place-2 : tie.Need-sub-place-2 Inv-loop μ-loop
 sub-place-2 c =
-    let l = c .before .loop in omega (arith, l .inv .last, length-big (l .rest) (c .loop-test .taken), some (l .rest / 10))
+    let l = c .before .loop in omega (arith, length-big (l .rest) (c .loop-test .taken), some (l .rest / 10))
 
 returns : tie.Need-returns Inv-loop μ-loop
 returns c =

@@ -5,17 +5,10 @@ use borrow.Author.Needs.{needs}
 use Rattle.figures.proofs.triples.Statement.{statement}
 use Rattle.figures.proofs.triples.Tie as tie
 
-abbrev Inv-loop : tie.InvT-loop
-Inv-loop xs i₀ t4 i = i ≤ length xs
-
-abbrev μ-loop : tie.MeasureT-loop
-μ-loop xs i₀ t4 i = length xs - i
-
 pub triples-spec : {M : Type 1} → statement M
 triples-spec =
-    tie.close
-    (tie.spec Inv-loop μ-loop (λ c. search needs) (λ c κs. search needs) (λ c. search needs)
-    (λ c. search needs) (λ c κs. search needs) (λ c. search needs) (λ c. search needs) (λ c. search needs)
+    tie.close (tie.spec (λ xs i₀ t4 i. i ≤ length xs) (λ xs i₀ t4 i. length xs - i) (λ c. search needs)
+    (λ c κs. search needs) (λ c. search needs) (λ c. search needs) (λ c κs. search needs) (λ c. search needs)
     (λ c. search needs) (λ c. search needs) (λ c. search needs) (λ c. search needs) (λ c. search needs)
-    (λ c. search needs) (λ c. search needs) (λ c. search needs) (λ c κs. search needs) (λ c. search needs)
-    (λ c. search needs) (λ c. search needs) (λ c. search needs))
+    (λ c. search needs) (λ c. search needs) (λ c. search needs) (λ c. search needs) (λ c. search needs)
+    (λ c κs. search needs) (λ c. search needs) (λ c. search needs) (λ c. search needs) (λ c. search needs))

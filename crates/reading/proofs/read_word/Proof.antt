@@ -29,14 +29,14 @@ module _ (h : tie.At-loop Inv-loop μ-loop) where
 returns : tie.Need-returns Inv-loop μ-loop
 returns c =
     let h = c .before .before in
-    let ends = word-ends (word h) (rest h) (h .loop .i) (h .loop .inv .2) (simp length-drop (omega arith)) in
-    record { ahead = h .loop .i; reached = refl; stops = ends (omega arith) }
+    let stops = word-ends (word h) (rest h) (h .loop .i) (h .loop .inv .2) (simp length-drop (omega arith)) in
+    record { ahead = h .loop .i; reached = refl; stops = stops (omega arith) }
 
 returns-2 : tie.Need-returns-2 Inv-loop μ-loop
 returns-2 c =
     let h = c .before .before .before .before .before in
-    let differs = word-differs (word h) (rest h) (h .loop .i) (h .loop .inv .2) (simp length-drop (omega arith)) in
-    record { ahead = h .loop .i; reached = refl; stops = differs (omega arith) (λ e. c .if2 .taken (rw getD-drop at e)) }
+    let stops = word-differs (word h) (rest h) (h .loop .i) (h .loop .inv .2) (simp length-drop (omega arith)) in
+    record { ahead = h .loop .i; reached = refl; stops = stops (omega arith) (λ e. c .if2 .taken (rw getD-drop at e)) }
 
 loop-again : tie.Need-loop-again Inv-loop μ-loop
 loop-again c =

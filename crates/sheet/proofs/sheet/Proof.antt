@@ -50,7 +50,7 @@ stuck : (c : tie.After-known-told) →
 stuck c = told (c .before .before .before .before) (c .before .got .given .1)
 
 cast-t10 : tie.Need-cast-t10
-cast-t10 c = omega (arith, place-bound (text (c .before .before .before .before)) (c .before .got .given .0 .0) (stuck c))
+cast-t10 c = omega (arith, place-bound _ (c .before .got .given .0 .0) (stuck c))
 
 slice-aggregate-give : tie.Need-slice-aggregate-give
 slice-aggregate-give c =

@@ -5,12 +5,8 @@ use Rattle.templetbark.proofs.Said.{said}
 use Rattle.templetbark.proofs.tb_plan.Statement.{statement}
 use Rattle.templetbark.proofs.tb_plan.Tie as tie
 
-returns : tie.Need-returns
-returns c =
-    let t = c .before .before .before in
-    let a = t .before .before .before .before .args in
-    said (PlanAnswer (a .table .now) (a .out .now)) (t .plan .result) (c .say .result) _ (c .say .ensures)
-    (t .plan .ensures)
-
 pub tb-plan-spec : {M : Type 1} → statement M
-tb-plan-spec = tie.close (tie.spec (λ c κs. search needs) (λ c κs. search needs) (λ c. search needs) returns)
+tb-plan-spec =
+    tie.close (tie.spec (λ c κs. search needs) (λ c κs. search needs) (λ c. search needs) (λ c.
+    let t = c .before .before .before in
+    said (PlanAnswer _ _) (t .plan .result) _ _ (c .say .ensures) (t .plan .ensures)))

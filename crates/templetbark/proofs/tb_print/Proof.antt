@@ -5,9 +5,8 @@ use Rattle.templetbark.proofs.Said.{said}
 use Rattle.templetbark.proofs.tb_print.Statement.{statement}
 use Rattle.templetbark.proofs.tb_print.Tie as tie
 
-returns : tie.Need-returns
-returns c = said (PrintAnswer _ _) (c .before .before .before .print-into .result) (c .say .result) _ (c .say .ensures)
-    (c .before .before .before .print-into .ensures)
-
 pub tb-print-spec : {M : Type 1} → statement M
-tb-print-spec = tie.close (tie.spec (λ c κs. search needs) (λ c κs. search needs) (λ c. search needs) returns)
+tb-print-spec =
+    tie.close (tie.spec (λ c κs. search needs) (λ c κs. search needs) (λ c. search needs) (λ c.
+    let t = c .before .before .before in
+    said (PrintAnswer _ _) (t .print-into .result) _ _ (c .say .ensures) (t .print-into .ensures)))
