@@ -1,7 +1,7 @@
 -- Laws of the answer of `sheet`: what was read is the sheet, any two answers are equal, and a text cut behind the
 -- longest sheet has the same answer.
-use Prim.Native.Nat.{ℕ, _*_, _≤_, _<_}
-use mathlib.Core.Path.{_≡_, refl, sym, ap, _∙_, subst}
+use Prim.Native.Nat.{ℕ, _*_, _<_}
+use mathlib.Core.Path.{_≡_, refl, sym, ap, _∙_}
 use mathlib.Core.Logic.{inl, ⊎-elim}
 use mathlib.Core.List.{List, [], _∷_, _++_}
 use native.Mathlib.Omega.{arith}
@@ -12,7 +12,7 @@ use Rattle.tables.specs.Table.{row-width}
 use Rattle.tables.specs.Refusal.{Result}
 use Rattle.tables.specs.Checks.{Rows, range, room}
 use Rattle.tables.proofs.Answered.{OnePlace, answered-unique, result-same, range-place, room-place}
-use Rattle.sheet.specs.Sheet.{Task, WellFormed, Sheet, Shared, ticksOf}
+use Rattle.sheet.specs.Sheet.{Task, WellFormed, Sheet, LongestPrefix, ticksOf}
 use Rattle.sheet.specs.Answers.{sheet-form, SheetGiven, TicksAnswer, SheetAnswer}
 use Rattle.sheet.specs.inside.Read.{ReadsTasks, ReadsSheet}
 use Rattle.sheet.specs.declared.SheetRead.{SheetRead}
@@ -24,14 +24,7 @@ pub reads-sheet : (s : List ℕ) (tick : ℕ) (before table : List ℕ) (r : She
     ReadsSheet s before table r
 reads-sheet s tick before table (read.Whole n) h =
     let f = h .1 in
-    let m = f .many in
-    let l = h .0 in (
-      tick,
-      f .tasks,
-      front-whole s tick (f .tasks) (length s) (f .front) refl (omega arith),
-      f .many,
-      f .rows,
-    )
+    (tick, f .tasks, front-whole s tick (f .tasks) (length s) (f .front) refl (omega arith), f .many, f .rows)
 reads-sheet s tick before table (read.Stuck place) h = h
 
 -- the table of a well-formed sheet
@@ -42,23 +35,17 @@ module _ (tick : ℕ) (ts : List Task) where
   pub ticks-front : (n : ℕ) (table rest : List ℕ) → length ts ≡ n → table ≡ ticksOf tick ts ++ rest →
       take (row-width * n) table ≡ ticksOf tick ts
   ticks-front n table rest e f =
-      ap (take (row-width * n)) f ∙ take-at (ticksOf tick ts) rest (row-width * n)
-      (let l = length-ticks tick ts in omega arith)
+      rw f (take-at (ticksOf tick ts) rest (row-width * n) (omega (arith, length-ticks tick ts)))
 
 -- any two answers are equal
 form-place : (text : List ℕ) → OnePlace (sheet-form text)
 form-place text a b h g =
-    let p = h .0 .longest b (g .0 .within) (g .0 .shared) in let q = g .0 .longest a (h .0 .within) (h .0 .shared) in
-    omega arith
+    let p = h .0 in
+    let q = g .0 in omega (arith, p .longest b (q .within) (q .shared), q .longest a (p .within) (p .shared))
 
 ticks-unique : (ticks out : List ℕ) (r s : Result) → TicksAnswer ticks out r → TicksAnswer ticks out s → r ≡ s
 ticks-unique ticks out r s =
-    answered-unique
-    (range ticks ∷ room (length ticks) out ∷ [])
-    (SheetGiven ticks out)
-    out
-    r
-    s
+    answered-unique (range ticks ∷ room (length ticks) out ∷ []) (SheetGiven ticks out) out r s
     (range-place ticks, (room-place (length ticks) out, tt))
     (λ clear v w l m g h. (g .many ∙ sym (h .many), g .whole ∙ sym (h .whole)))
 
@@ -80,39 +67,32 @@ sheet-unique text out r s a b =
     b)
     a
 
+long-no-sheet : (s : List ℕ) → longest-sheet < length s → (tick : ℕ) (ts : List Task) → Sheet s tick ts → ⊥
+long-no-sheet s h tick ts g = omega (arith, ap length (g .bytes), sheet-length tick ts (g .formed))
+
 -- a text that is cut behind the longest sheet has the same answer
-module _ (text : List ℕ) (k : ℕ) (enough : longest-sheet < k) where
-  cut-take : (m : ℕ) → m ≤ k → take m (take k text) ≡ take m text
-  cut-take m h = take-take m k text h
-
-  long-no-sheet : (s : List ℕ) → longest-sheet < length s → (tick : ℕ) (ts : List Task) → Sheet s tick ts → ⊥
-  long-no-sheet s h tick ts g = let e = ap length (g .bytes) in omega (arith, sheet-length tick ts (g .formed))
-
-  pub cut-same : (out : List ℕ) (r : Result) → SheetAnswer (take k text) out r → SheetAnswer text out r
-  cut-same out r a =
-      by-le (length text) k
-      (λ h. subst (λ (s : List ℕ). SheetAnswer s out r) (take-all k text h) a)
-      (λ h.
-      let long = length-take-le k text (omega arith) in
-      ⊎-elim
-      (λ x.
-      let p = x .place .0 in
-      let w = p .within in
-      inl
-      (record {
-        number = x .number;
-        place = (
-          record {
-            within = omega arith;
-            shared = subst Shared (cut-take (r .place) (omega arith)) (p .shared);
-            longest = λ m l g.
-                let b = shared-bound text m l g in
-                p .longest m (omega arith) (subst Shared (sym (cut-take m (omega arith))) g);
-          },
-          long-no-sheet text (omega arith),
-        );
-        value = x .value;
-        unwritten = x .unwritten;
-      }))
-      (λ x. absurd (long-no-sheet (take k text) (omega arith) (x .0) (x .1) (x .2)))
-      a)
+pub cut-same : (text : List ℕ) (k : ℕ) → longest-sheet < k → (out : List ℕ) (r : Result) →
+    SheetAnswer (take k text) out r → SheetAnswer text out r
+cut-same text k enough out r a =
+    by-le (length text) k
+    (λ h. rw (take-all k text h) at a)
+    (λ h.
+    let long = length-take-le k text (omega arith) in
+    ⊎-elim
+    (λ x.
+    let p = x .place .0 in
+    let same : LongestPrefix text (r .place) =
+    record {
+      within = omega arith;
+      shared = rw (take-take (r .place) k text (omega arith)) at (p .shared);
+      longest = λ m l g.
+          let b = shared-bound text m l g in p .longest m (omega arith) (rw (take-take m k text (omega arith)) g);
+    } in
+    inl (record {
+      number = x .number;
+      place = (same, long-no-sheet text (omega arith));
+      value = x .value;
+      unwritten = x .unwritten;
+    }))
+    (λ x. absurd (long-no-sheet (take k text) (omega arith) (x .0) (x .1) (x .2)))
+    a)
