@@ -1,3 +1,3 @@
--- The laws of the crate `text`.
+-- The laws of the crate `decimal`.
 pub mod Decimal
 pub mod Placed

@@ -1,4 +1,4 @@
--- The definitions of the crate `text`.
+-- The definitions of the crate `decimal`.
 pub mod Decimal
 pub mod Word
 pub mod inside

@@ -1,4 +1,4 @@
--- The laws of the crate `page`.
+-- The laws of the crate `printing`.
 pub mod Printed
 pub mod Answers
 pub mod Most

@@ -1,4 +1,4 @@
--- The definitions of the crate `page`.
+-- The definitions of the crate `printing`.
 pub mod Printed
 pub mod Answers
 pub mod inside

@@ -42,9 +42,9 @@ ticks-more tick (u ∷ ts) t = rw (ticks-more tick ts t)
 pub length-ticks : (tick : ℕ) (ts : List Task) → length (ticksOf tick ts) ≡ row-width * length ts
 unfolding ticksOf
 length-ticks tick [] = refl
-length-ticks tick (t ∷ ts) = let e = length-ticks tick ts in omega arith
+length-ticks tick (t ∷ ts) = omega (arith, length-ticks tick ts)
 
--- how long a sheet is: a task line is not empty
+-- how long the task lines are: each has some bytes, and 38 at most
 lines-length : (ts : List Task) → TasksWithin ts →
     (length ts ≤ length (taskLines ts)) × (length (taskLines ts) ≤ 38 * length ts)
 unfolding taskLines
@@ -73,8 +73,7 @@ lines-rest : (ts us : List Task) (x : List ℕ) → TasksWithin ts → TasksWith
     Rest ts us x
 unfolding taskLines
 lines-rest [] us x h g e = record { rest = us; joined = refl; within = g; text = e }
-lines-rest (t ∷ ts) [] x h g e =
-    absurd (omega (arith, task-length t (h .0), simp length-append at (ap length e)))
+lines-rest (t ∷ ts) [] x h g e = absurd (omega (arith, task-length t (h .0), simp length-append at (ap length e)))
 lines-rest (t ∷ ts) (u ∷ us) x h g e =
     let f = rw append-assoc at e in
     let q = code-task t u (h .0) (g .0) (taskLines ts ++ x) (taskLines us) f in
@@ -84,8 +83,7 @@ lines-rest (t ∷ ts) (u ∷ us) x h g e =
 
 -- the same of whole sheets
 sheet-rest : (tick tock : ℕ) (ts us : List Task) (x : List ℕ) → Between longest-tick tick → Between longest-tick tock →
-    TasksWithin ts → TasksWithin us
-    → sheetText tick ts ++ x ≡ sheetText tock us → (tick ≡ tock) × Rest ts us x
+    TasksWithin ts → TasksWithin us → sheetText tick ts ++ x ≡ sheetText tock us → (tick ≡ tock) × Rest ts us x
 unfolding sheetText
 sheet-rest tick tock ts us x p q h g e =
     let f = rw append-assoc at e in (
@@ -93,6 +91,7 @@ sheet-rest tick tock ts us x p q h g e =
       lines-rest ts us x h g (code-rest tickPiece code-tick tick tock p q (taskLines ts ++ x) (taskLines us) f),
     )
 
+-- task lines that are not empty begin with a whole one
 some-lines : {X : Type 0} (vs : List Task) (x : List ℕ) → TasksWithin vs → x ≡ taskLines vs → 1 ≤ length x
     → ((t : Task) (us : List Task) → TaskWithin t → x ≡ taskLine t ++ taskLines us → X) → X
 unfolding taskLines

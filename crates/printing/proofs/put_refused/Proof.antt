@@ -17,7 +17,7 @@ room s =
     let n = ten-digits (s .args .number) (s .fits .number .fits) in
     let p = ten-digits (s .args .place) (s .fits .place .fits) in omega (arith, s .pre)
 
--- the places behind the two fields: that of the start, and that of the first
+-- from the place behind a field back to that behind the field before it, and to the start
 abbrev start : tie.After-put-field → tie.Start
 start c = c .before .before .before .before
 

@@ -10,7 +10,7 @@ use borrow.Author.Needs.{needs}
 use Rattle.printing.proofs.put_row.Statement.{statement}
 use Rattle.printing.proofs.put_row.Tie as tie
 
--- the places behind the fields: that of the start, and of each field that of the one before it
+-- from the place behind a field back to that behind the field before it, and to the start
 abbrev start : tie.After-put-field → tie.Start
 start c = c .before .before .before .before
 
