@@ -56,7 +56,7 @@ either s t =
       shows = λ e. or-cases (s .passes) (t .passes) e (λ a. inl (s .shows a)) (λ b. inr (t .shows b));
     }
 
--- a test that is needed only under a hypothesis, which the test b decides
+-- what has to hold only under a hypothesis: where the hypothesis holds b passes, and where b fails nothing is tested
 abbrev pub when : {H A : Type 0} (b : Bool) → (H → b ≡ true) → Test A → Test (H → A)
 when b decides t =
     record {
