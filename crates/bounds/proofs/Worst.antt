@@ -110,7 +110,7 @@ module _ (tb : Table) (p : Plan) (r : ℕ) (opening : ℕ → Bool) (t₀ Z : �
         (λ x. absurd (omega (arith, low h (once-of u h x .1)))))
         (λ y. absurd (omega (arith, once-of v h y .0)))
 
-    -- "Releases never fall along the list."
+    -- the releases never fall
     pub worst-order : (k l : ℕ) → k < l → l < worst .N → worst .release k ≤ worst .release l
     worst-order k l a b = div-mono (tb .n) (omega (arith, nth-rises listed most k l a b))
 

@@ -38,7 +38,7 @@ tests-response {xs} {p} g i R l x =
       high = under-busy xs (g .busy) R horizon (λ busy. bounded busy .high);
     }
 
--- "Response times equal those of document 01's test"
+-- the response times are those of the test
 pub times-are-the-tests : TimesAreTheTests
 times-are-the-tests xs ps out r a zero i l =
     let g = times-gave xs ps out r a zero in tests-response g i (getD (r .out) i 0) l (g .given .responses i l)

@@ -15,7 +15,7 @@ use Rattle.tables.specs.Checks.{BreaksAlone, BreaksAgainst, job-rules}
 use Rattle.tables.proofs.Rows.{holds-none}
 use Rattle.joblist.specs.inside.Listed.{KeepsAlone}
 
--- job k breaks a rule, "by itself or against an earlier job"
+-- job k breaks a rule, alone or with some job before it
 abbrev pub AtFault : Table → Jobs → ℕ → Type 0
 AtFault tb js k = BreaksAlone tb js k ⊎ ((l : ℕ) × (l < k) × BreaksAgainst tb js l k)
 

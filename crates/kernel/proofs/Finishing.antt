@@ -85,7 +85,7 @@ module _ (tb : Table) (p : Plan) (js : Jobs) where
         (λ q. omega (arith, X.executed-run tb p js t k))
         (λ q. absurd (omega (arith, sum-lt (E t) (js .run) (js .N) k (λ j _. X.executed-run tb p js t j) l q))))
 
--- "It stays below 2^32: at most 1,000,000 + 4,096 × 1,000,000."
+-- "It stays below 2^32": the last release, and the worst run of every job behind it
 pub finish-exists : (tb : Table) (p : Plan) (js : Jobs) → Sound tb → WellFormedJobs tb js → (k : ℕ) → k < js .N →
     (f : ℕ) × Finishes tb p js k f × (f ≤ last-release + most-jobs * most)
 finish-exists tb p js sound wf k l =

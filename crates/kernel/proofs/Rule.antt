@@ -53,7 +53,7 @@ by-least P f (suc n) none some =
     (λ j g r. by-eq j n (λ z. not-both (P j) (ap P z ∙ e) r) (λ z. low j (omega arith) r))))
 
 module _ (tb : Table) (p : Plan) (js : Jobs) (x : ℕ → ℕ) where
-  -- (a) "an unfinished job that has executed more than C − length ticks"
+  -- (a) job k is unfinished and has executed a tick of its final region at least
   pub record RunsOn (k : ℕ) : Type 0 where
     pub left : x k < js .run k
     pub held : locked tb p (js .row k) (x k) ≡ true
@@ -82,7 +82,7 @@ module _ (tb : Table) (p : Plan) (js : Jobs) (x : ℕ → ℕ) where
   abbrev pub Free : Type 0
   Free = (k : ℕ) → k < js .N → RunsOn k → ⊥
 
-  -- "the pending job of highest rank .., the earliest released of its row"
+  -- (b) job k is pending, and no pending job is ahead of it
   pub record Leads (t k : ℕ) : Type 0 where
     pub pends : Pending t k
     pub highest : (l : ℕ) → l < js .N → Pending t l → p .rank (js .row k) ≤ p .rank (js .row l)
@@ -148,7 +148,7 @@ module _ (tb : Table) (p : Plan) (js : Jobs) (x : ℕ → ℕ) where
         earliest = λ j h pj r. omega (arith, low j h pj, ap (λ i. p .rank i * suc t) r);
       }))
 
-  -- "At each tick, in this order: (a) ..; (b) otherwise ..; (c) otherwise the tick is idle."
+  -- "in this order": what is picked is so by (a), by (b) or by (c)
   pub rule {ℓ} : {X : Type ℓ} (t : ℕ) →
       ((k : ℕ) → k < js .N → pick tb p js x t ≡ job k → RunsOn k → X) →
       ((k : ℕ) → k < js .N → pick tb p js x t ≡ job k → Free → Leads t k → X) →

@@ -15,7 +15,7 @@ use Rattle.choice.proofs.Level.{Alike}
 use Rattle.choice.proofs.Filled.{chosen-low}
 use Rattle.choice.proofs.Complete.{above-others}
 
--- row j's response at its rank, "with all other unplaced rows above it and the placed rows below"
+-- row j's response at its rank: above it the rows that were unplaced then, below it the placed ones
 abbrev pub Timed : Table → Plan → ℕ → ℕ → Type 0
 Timed tb p j R = Response tb (without (unplaced p (p .rank j)) j) (blocking tb p (p .rank j)) j (p .len j) R
 

@@ -64,7 +64,7 @@ module _ (p q : List ℕ) where
       let l = row-tells n _ _ _ _ _ _ x y (r .1) in
       ((λ i h. by-eq i n (λ z. rw z (l .0, l .1, l .2)) (λ z. r .0 i (omega arith))), l .3)
 
-  -- "the text determines the planned table"
+  -- the text tells the planned table
   pub text-determines : Rows planned-width p → Rows planned-width q → planText p ≡ planText q → p ≡ q
   unfolding planLine
   text-determines a b e =

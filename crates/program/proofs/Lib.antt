@@ -1,2 +1,2 @@
--- The laws of the crate `desk`.
+-- The laws of the crate `program`.
 pub mod Pages

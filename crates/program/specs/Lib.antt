@@ -1,3 +1,3 @@
--- The definitions of the crate `desk`.
+-- The definitions of the crate `program`.
 pub mod Reply
 pub mod inside

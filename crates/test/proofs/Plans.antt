@@ -108,7 +108,7 @@ module _ (tb : Table) (sound : Sound tb) (w : BusyWithin tb) (p : Plan) (wf : We
         let own = active-side-level tb level B i t l (le-leb r r (omega arith)) in
         omega (arith, active-side-is tb P B i t, active-side-is tb (without level i) B i t)
 
-    -- "every L of every well-formed plan exists and is at most H"
+    -- every row of a well-formed plan has an active period, within H
     pub plan-active : (L : ℕ) × Active tb P B i L × (L ≤ horizon)
     plan-active =
         let r = level-active tb P B i pos l w plan-side in
@@ -120,7 +120,7 @@ module _ (tb : Table) (sound : Sound tb) (w : BusyWithin tb) (p : Plan) (wf : We
         let a = plan-active in
         response-exists tb P B i (p .len i) pos l (wf .len-low i l) (wf .len-high i l) (a .0) (a .1)
 
-    -- "and so is every R; R is never below C"
+    -- every response is within H, and never below C
     pub plan-bounded : (R : ℕ) → ResponseOf tb p i R → Bounded tb p i R
     plan-bounded R x =
         let a = plan-active in
