@@ -19,6 +19,7 @@ use Rattle.tables.specs.Plan.{Plan, planOf}
 use Rattle.test.specs.Test.{before, load, busy-side, Response, longest, blocking}
 use Rattle.test.proofs.Load.{Positive}
 use Rattle.test.proofs.Plans.{room, blocking-is, longest-cases}
+use Rattle.sides.proofs.Pairs.{put, put-length, put-other, put-first, put-second}
 use Rattle.responses.proofs.Stored.{zeros}
 use Rattle.choice.specs.Choice.{unplaced, Takes, TakesRank, NoneFits, Filled}
 use Rattle.choice.proofs.Level.{Alike, takes-alike, none-alike}
@@ -30,10 +31,6 @@ use Rattle.plan.proofs.Timed.{Timed, response-alike, timed-at, timed-re
 -- the rank being filled
 abbrev pub rank : ℕ → ℕ
 rank rest = count (marked rest) 32
-
--- row y stands in the plan at rank r with length q
-abbrev pub put : List ℕ → ℕ → ℕ → ℕ → List ℕ
-put plan r y q = set (set plan (2 * y) r) (2 * y + 1) q
 
 module _ (tb : Table) where
   pub record Going (plan times : List ℕ) (rest b : ℕ) : Type 0 where
@@ -135,7 +132,7 @@ module _ (tb : Table) where
     module _ {y q R left : ℕ} (row : y < 32) (t : Takes tb (marked rest) b (marked rest) y q)
         (x : Response tb (without (marked rest) y) b y q R) (d : Less rest y left) where
       abbrev p′ : Plan
-      p′ = planOf (put plan (rank rest) y q)
+      p′ = planOf (put plan y (rank rest) q)
 
       still : {X : Type 0} (j : ℕ) → marked left j ≡ true → (¬ (j ≡ y) → marked rest j ≡ true → X) → X
       still j e k = without-elim (marked rest) y j (ap (λ Q. Q j) (sym (d .marks)) ∙ e) k
@@ -146,23 +143,15 @@ module _ (tb : Table) where
       one-less : suc (rank left) ≡ rank rest
       one-less = omega (arith, count-less 32 d row (t .try))
 
-      -- a place of the plan that is not row y's holds what it held
-      apart : (k : ℕ) → ¬ (k ≡ 2 * y) → ¬ (k ≡ 2 * y + 1) → getD (put plan (rank rest) y q) k 0 ≡ getD plan k 0
-      apart k e f =
-          getD-set-other (set plan (2 * y) (rank rest)) (2 * y + 1) k q 0 f
-          ∙ getD-set-other plan (2 * y) k (rank rest) 0 e
-
       placed-y : Placed tb p p′ (suc (rank left)) y q
       placed-y =
+          let h : 2 * y + 1 < length plan = omega (arith, g .long) in
           record {
-            rank =
-                getD-set-other (set plan (2 * y) (rank rest)) (2 * y + 1) (2 * y) q 0 (λ e. omega arith)
-                ∙ getD-set-same plan (2 * y) (rank rest) 0 (omega (arith, g .long)) ∙ sym one-less;
-            len = getD-set-same (set plan (2 * y) (rank rest)) (2 * y + 1) q 0
-                (omega (arith, g .long, length-set plan (2 * y) (rank rest)));
+            rank = put-first plan y (rank rest) q h ∙ sym one-less;
+            len = put-second plan y (rank rest) q h;
             others = λ j _ ne. (
-              apart (2 * j) (λ e. ne (omega arith)) (λ e. omega arith),
-              apart (2 * j + 1) (λ e. omega arith) (λ e. ne (omega arith)),
+              put-other plan y (rank rest) q (2 * j) (λ e. ne (omega arith)) (λ e. omega arith),
+              put-other plan y (rank rest) q (2 * j + 1) (λ e. omega arith) (λ e. ne (omega arith)),
             );
           }
 
@@ -193,10 +182,10 @@ module _ (tb : Table) where
           let o = placed-y .others j l ne in
           timed-at p′ (alike (p .rank j) (omega (arith, g .placed j l m, one-less))) (o .0) (o .1) r
 
-      pub going-more : Going (put plan (rank rest) y q) (set times y R) left (max b (q - 1))
+      pub going-more : Going (put plan y (rank rest) q) (set times y R) left (max b (q - 1))
       going-more =
           record {
-            long = simp length-set (g .long);
+            long = put-length plan y (rank rest) q ∙ g .long;
             whole = simp length-set (g .whole);
             inside = λ j e. still j e (λ _ m. g .inside j m);
             free = λ j e. still j e (λ ne m. placed-y .others j (g .inside j m) ne .0 ∙ g .free j m);
@@ -214,6 +203,8 @@ module _ (tb : Table) where
                 by-eq j y
                 (λ v. rw (v, getD-set-same times y R 0 (omega (arith, g .whole))) timed-y)
                 (λ v. rw (getD-set-other times y j R 0 v) (timed-other j l v (gone j v e) (g .timed j l (gone j v e))));
-            plan-past = λ k h. apart k (λ e. omega (arith, t .row)) (λ e. omega (arith, t .row)) ∙ g .plan-past k h;
+            plan-past =
+                λ k h. put-other plan y (rank rest) q k (λ e. omega (arith, t .row)) (λ e. omega (arith, t .row))
+                ∙ g .plan-past k h;
             times-past = λ j h. getD-set-other times y j R 0 (λ e. omega (arith, t .row)) ∙ g .times-past j h;
           }

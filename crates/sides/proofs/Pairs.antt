@@ -1,10 +1,10 @@
--- Lists of two numbers a row are equal where their rows are.
-use Prim.Native.Nat.{ℕ, _+_, _*_, _/_}
-use mathlib.Core.Path.{_≡_}
+-- Laws of lists of two numbers a row: equal where their rows are, and stored to row by row.
+use Prim.Native.Nat.{ℕ, _+_, _*_, _/_, _<_}
+use mathlib.Core.Path.{_≡_, _∙_}
 use mathlib.Core.List.{List}
 use native.Mathlib.Omega.{arith}
-use lib.ListN.{length, getD}
-use lib.Seq.{ext-getD}
+use lib.ListN.{length, getD, set, length-set}
+use lib.Seq.{ext-getD, getD-set-same, getD-set-other}
 use Rattle.counting.proofs.Cases.{by-eq}
 
 pub pairs-same : (l m : List ℕ) → length l ≡ length m → ((i : ℕ) → getD l (2 * i) 0 ≡ getD m (2 * i) 0) →
@@ -14,3 +14,23 @@ pairs-same l m long first second =
     (λ k _.
     let i = k / 2 in
     by-eq k (2 * i) (λ e. rw e (first i)) (λ c. let e : k ≡ 2 * i + 1 = omega arith in rw e (second i)))
+
+-- x and y stored as row i
+abbrev pub put : List ℕ → ℕ → ℕ → ℕ → List ℕ
+put l i x y = set (set l (2 * i) x) (2 * i + 1) y
+
+module _ (l : List ℕ) (i x y : ℕ) where
+  pub put-length : length (put l i x y) ≡ length l
+  put-length = simp length-set
+
+  pub put-other : (k : ℕ) → ¬ (k ≡ 2 * i) → ¬ (k ≡ 2 * i + 1) → getD (put l i x y) k 0 ≡ getD l k 0
+  put-other k e f = getD-set-other (set l (2 * i) x) (2 * i + 1) k y 0 f ∙ getD-set-other l (2 * i) k x 0 e
+
+  module _ (inside : 2 * i + 1 < length l) where
+    pub put-first : getD (put l i x y) (2 * i) 0 ≡ x
+    put-first =
+        getD-set-other (set l (2 * i) x) (2 * i + 1) (2 * i) y 0 (λ e. omega arith)
+        ∙ getD-set-same l (2 * i) x 0 (omega arith)
+
+    pub put-second : getD (put l i x y) (2 * i + 1) 0 ≡ y
+    put-second = getD-set-same (set l (2 * i) x) (2 * i + 1) y 0 (omega (arith, length-set l (2 * i) x))

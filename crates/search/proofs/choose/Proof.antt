@@ -18,7 +18,7 @@ use Rattle.test.proofs.Load.{sound-positive}
 use Rattle.test.proofs.Response.{response-unique}
 use Rattle.sides.specs.inside.Asks.{asking, askingIn}
 use Rattle.sides.specs.inside.Level.{Level}
-use Rattle.sides.proofs.Asks.{sound-for, run-for, active-side-of, start-side-of, active-of, active-for}
+use Rattle.sides.proofs.Asks.{sound-for, run-for, active-side-of, start-side-of}
 use Rattle.sides.proofs.Lower.{within-first, run-first}
 use Rattle.responses.proofs.Jobs.{Working, jobs-few}
 use Rattle.choice.specs.Choice.{Fits}
@@ -112,6 +112,9 @@ module _ (c : Under tie.After-less) where
   marked-first : U (F .before) first ≡ true
   marked-first = c .before .next .ensures .first .holds
 
+  level-side : let s = F .before in active-side (asked F) rest (b s) first ≡ active-side (tb s) rest (b s) first
+  level-side = active-side-of (tb (F .before)) (same F) rest (b (F .before)) first
+
 -- ---- where the level began
 abbrev begun : Under tie.After-active-period → Under tie.Start
 begun a = F (a .before .before .before .before) .before
@@ -152,7 +155,7 @@ module _ (h : Under tie.After-less3) where
   active : Active (tb S) P (b S) i L
   active =
       period-same (S .pre) (first N) i (marked-first N) unplaced
-      (rw (N .less .ensures .marks) at (active-of (tb S) (same O) (rest N) (b S) (first N) (A .active-period .ensures)))
+      (rw (level-side N, N .less .ensures .marks) at (A .active-period .ensures))
 
   short : L ≤ horizon
   short = period-within (S .pre) i unplaced active
@@ -164,8 +167,7 @@ module _ (h : Under tie.After-less3) where
   least-is : least ≡ active-side (tb S) P (b S) i 1
   least-is =
       A .before .before .active-side .ensures
-      ∙ active-side-of (tb S) (same O) (rest N) (b S) (first N) 1
-      ∙ rw (N .less .ensures .marks) (side-same (S .pre) (first N) i 1 (marked-first N) unplaced)
+      ∙ rw (level-side N, N .less .ensures .marks) (side-same (S .pre) (first N) i 1 (marked-first N) unplaced)
 
   runs : Within (tb S .C i)
   runs = S .pre .sound .C i inside
@@ -249,8 +251,7 @@ module _ (c : Under tie.At-loop) where
   -- what the asks give for it
   turned : start-side (asked (O (R I))) (marked (R I .less3 .result)) (b (S (R I))) (i (R I)) upto (q I) (J .jobs .k)
       (c .loop .s) ≡ side
-  turned = rw (R I .less3 .ensures .marks)
-      (start-side-of (tb (S (R I))) (same (O (R I))) (P (R I)) (b (S (R I))) (i (R I)) (q I) (J .jobs .k) (c .loop .s))
+  turned = let h = R I in rw (h .less3 .ensures .marks, start-side-of (tb (S h)) (same (O h)) (P h) (b (S h)) (i h))
 
   within : c .loop .s + q I ≤ horizon
   within = omega (arith, trial-within (working I) (c .loop .inv), short (R I))
@@ -326,13 +327,14 @@ active-period-requires c κs =
     let s = F d .before in
     let v = others (F d) (first d) (d .less .result) (d .less .ensures .marks) in
     let l = s .pre .inside (first d) (marked-first d) in
-    let r = period-exists (s .pre) (first d) (marked-first d) in (
+    let r = period-exists (s .pre) (first d) (marked-first d) in
+    let a : Active (asked (F d)) (rest d) (b s) (first d) (r .0) =
+    rw (level-side d, d .less .ensures .marks) (r .1) in (
       v,
       blocking-within (s .pre),
       l,
-      within-first (asked (F d)) (rest d) (b s) (first d)
-          (sound-positive (asked (F d)) (v .sound)) l (c .before .active-side .ensures)
-          (active-for (tb s) (same (F d)) (rest d) (b s) (first d) (rw (d .less .ensures .marks) (r .1))) (r .2),
+      within-first (asked (F d)) (rest d) (b s) (first d) (sound-positive (asked (F d)) (v .sound)) l
+          (c .before .active-side .ensures) a (r .2),
     )
 
 rows-holds : Under tie.Need-rows-holds

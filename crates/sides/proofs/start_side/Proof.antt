@@ -32,23 +32,6 @@ others c =
     let h = s .pre .6 in
     rw (c .load .ensures) (load-small (tb s) (s .pre .0 .sound) _ (omega arith) (marked (s .args .above)))
 
-cast-result : tie.Need-cast-result
-cast-result c = let s = c .before in omega (arith, s .pre .0 .sound .C (s .args .i) (s .pre .2) .high)
-
-mul-result-2 : tie.Need-mul-result-2
-mul-result-2 c = omega (arith, runs-small (c .before))
-
-sub-result : tie.Need-sub-result
-sub-result c = omega (arith, whole (c .before))
-
-add-result : tie.Need-add-result
-add-result c = omega (arith, runs-small (c .before))
-
-add-result-2 : tie.Need-add-result-2
-add-result-2 c =
-    let s = c .before .before in
-    omega (arith, runs-small s, others c)
-
 returns : tie.Need-returns
 returns c =
     let s = c .before .before in
@@ -64,5 +47,8 @@ returns c =
 pub start-side-spec : {M : Type 1} → statement M
 start-side-spec =
     tie.close
-    (tie.spec (λ c. search needs) (λ c. search needs) (λ c. search needs) cast-result mul-result-2 sub-result
-    add-result (λ c. search needs) (λ c κs. search needs) add-result-2 returns)
+    (tie.spec (λ c. search needs) (λ c. search needs) (λ c. search needs)
+    (λ c. let s = c .before in omega (arith, s .pre .0 .sound .C (s .args .i) (s .pre .2) .high))
+    (λ c. omega (arith, runs-small (c .before))) (λ c. omega (arith, whole (c .before)))
+    (λ c. omega (arith, runs-small (c .before))) (λ c. search needs) (λ c κs. search needs)
+    (λ c. omega (arith, runs-small (c .before .before), others c)) returns)
