@@ -8,7 +8,7 @@ use Rattle.test.specs.Test.{jobs, Start, Finish, Response}
 use Rattle.counting.proofs.Cases.{by-le, by-eq}
 use Rattle.test.proofs.Starts.{jobs-some}
 use Rattle.test.proofs.Response.{finish-unique}
-use Rattle.responses.proofs.Jobs.{Working, job-exists, job-after}
+use Rattle.responses.proofs.Jobs.{Working, Job, job-exists, job-known}
 
 -- of the first k jobs none has a response above R, and where R is not 0 one of them has it
 pub record Passed (tb : Table) (P : ℕ → Bool) (b i q k R : ℕ) : Type 0 where
@@ -20,7 +20,7 @@ passed-none tb P b i q = record { highest = λ j f h. absurd (omega arith); reac
 
 -- one job more, that starts at s
 module _ {tb : Table} {P : ℕ → Bool} {b i q k R s : ℕ} (p : Passed tb P b i q k R) (st : Start tb P b i q (suc k) s)
-    (after : k * tb .T i + tb .C i ≤ s + q) where
+    (job : Job tb i q k s) where
   finish : Finish tb P b i q (suc k) (s + q)
   finish = record { start = s; starts = st; ends = refl }
 
@@ -52,5 +52,5 @@ passed-all {tb} {P} {b} {i} {q} {L} {R} w p =
     let one = jobs-some tb P b i (w .positive) (w .row) L (w .active) in
     let s = job-exists w 1 (omega arith) one in
     let first = p .highest 0 (s .0 + q) one (record { start = s .0; starts = s .1; ends = refl }) in
-    let r = p .reached (omega (arith, job-after w 0 one (s .1), w .positive .C i (w .row))) in
+    let r = p .reached (omega (arith, job-known w 0 one (s .1) .after, w .positive .C i (w .row))) in
     record { period = L; active = w .active; job = r .0; counts = r .1; reached = r .2; highest = p .highest }

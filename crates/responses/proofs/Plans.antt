@@ -1,6 +1,6 @@
 -- Laws of the set of rows above a rank and of the longest length below it, row by row.
 use Prim.Native.Nat.{ℕ, pred, max, _+_, _≤_, _<_}
-use mathlib.Core.Path.{_≡_, refl, sym, ap, _∙_}
+use mathlib.Core.Path.{_≡_, refl, _∙_}
 use mathlib.Core.Bool.{Bool, true, false, _&&_, _||_}
 use native.Mathlib.Omega.{arith}
 use native.Mathlib.Numerals.{add-one}
@@ -19,34 +19,34 @@ or-no : (b : Bool) → (b || false) ≡ b
 or-no true = refl
 or-no false = refl
 
--- a row but i stands before i where it stands before i + 1
-still : (j i : ℕ) → ¬ (j ≡ i) → ltb j i ≡ ltb j (i + 1)
-still j i e =
-    by-le i j
-    (λ l. le-ltb j i l ∙ sym (le-ltb j (i + 1) (omega arith)))
-    (λ l. lt-ltb j i l ∙ sym (lt-ltb j (i + 1) (omega arith)))
-
 module _ (p : Plan) (r : ℕ) where
   pub above-none : Above p 0 r 0
   above-none j = rw (none j, le-ltb j 0 (omega arith))
 
-  -- row i is not among the rows before it
-  pub above-apart : (i set : ℕ) → Above p i r set → marked set i ≡ false
-  above-apart i set a = a i ∙ rw (le-ltb i i (omega arith))
+  -- the rows before i
+  module _ (i set : ℕ) (a : Above p i r set) where
+    -- row i is not among them
+    pub above-apart : marked set i ≡ false
+    above-apart = a i ∙ rw (le-ltb i i (omega arith))
 
-  pub above-more : (i set more : ℕ) → Above p i r set → p .rank i < r → More set i more → Above p (i + 1) r more
-  above-more i set more a h m j =
-      m j
-      ∙ by-eq j i
-      (λ e. rw (a j, eq-eqb j i e, e, le-ltb i i (omega arith), lt-ltb i (i + 1) (omega arith), lt-ltb (p .rank i) r h))
-      (λ e. rw (a j, ne-eqb j i e) (or-no (ltb j i && above p r j) ∙ ap (λ x. x && above p r j) (still j i e)))
+    -- another row stands before i where it stands before i + 1
+    others : (j : ℕ) → ¬ (j ≡ i) → marked set j ≡ (ltb j (i + 1) && above p r j)
+    others j e =
+        by-le i j
+        (λ l. a j ∙ rw (le-ltb j i l, le-ltb j (i + 1) (omega arith)))
+        (λ l. a j ∙ rw (lt-ltb j i l, lt-ltb j (i + 1) (omega arith)))
 
-  pub above-same : (i set : ℕ) → Above p i r set → r ≤ p .rank i → Above p (i + 1) r set
-  above-same i set a h j =
-      a j
-      ∙ by-eq j i
-      (λ e. rw (e, le-ltb i i (omega arith), lt-ltb i (i + 1) (omega arith), le-ltb (p .rank i) r h))
-      (λ e. ap (λ x. x && above p r j) (still j i e))
+    pub above-more : (more : ℕ) → p .rank i < r → More set i more → Above p (i + 1) r more
+    above-more more h m j =
+        by-eq j i
+        (λ e. m j ∙ rw (e, above-apart, eq-eqb i i refl, lt-ltb i (i + 1) (omega arith), lt-ltb (p .rank i) r h))
+        (λ e. m j ∙ rw (ne-eqb j i e) (or-no (marked set j) ∙ others j e))
+
+    pub above-same : r ≤ p .rank i → Above p (i + 1) r set
+    above-same h j =
+        by-eq j i
+        (λ e. rw (e, above-apart, lt-ltb i (i + 1) (omega arith), le-ltb (p .rank i) r h))
+        (others j)
 
   -- the longest length below, of the rows before i
   unfoldable pub longest-in : ℕ → ℕ
@@ -61,12 +61,11 @@ module _ (p : Plan) (r : ℕ) where
   longest-step i = rw (add-one i)
 
   pub longest-more : (i : ℕ) → r < p .rank i → longest-in (i + 1) ≡ max (longest-in i) (p .len i)
-  longest-more i h = longest-step i ∙ ap (max (longest-in i))
-      (given-yes (below p r i) (blocks p i) (lt-ltb r (p .rank i) h))
+  longest-more i h = omega (arith, longest-step i, given-yes (below p r i) (blocks p i) (lt-ltb r (p .rank i) h))
 
   pub longest-same : (i : ℕ) → p .rank i ≤ r → longest-in (i + 1) ≡ longest-in i
   longest-same i h = omega (arith, longest-step i, given-no (below p r i) (blocks p i) (le-ltb r (p .rank i) h))
 
   pub blocking-in : (n b : ℕ) → b ≡ pred (longest-in n) → Blocks p n r b
   unfolding longest-in blocking longest
-  blocking-in n b e tb many = e ∙ ap (λ m. pred (largest (λ j. given (below p r j) (blocks p j)) m)) (sym many)
+  blocking-in n b e tb many = rw many e

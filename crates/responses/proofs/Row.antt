@@ -1,7 +1,7 @@
 -- A row of a plan, with its rows above as a set and its blocking as a number: what its response asks for, and what it
 -- then is.
 use Prim.Native.Nat.{ℕ, _≤_, _<_}
-use mathlib.Core.Path.{_≡_, refl, sym, _∙_, subst}
+use mathlib.Core.Path.{_≡_, refl, sym, _∙_}
 use mathlib.Core.Bool.{Bool, true}
 use mathlib.Core.List.{List}
 use native.Mathlib.Omega.{arith}
@@ -10,7 +10,7 @@ use borrow.Author.Tests.{ltb-true, lt-ltb}
 use Rattle.marks.specs.inside.Marks.{marked}
 use Rattle.tables.specs.Table.{Table}
 use Rattle.tables.specs.Plan.{planOf}
-use Rattle.test.specs.Test.{horizon, Active, Response, ResponseOf, above, blocking}
+use Rattle.test.specs.Test.{horizon, Response, ResponseOf, above, blocking}
 use Rattle.sides.specs.inside.Found.{ActiveWithin}
 use Rattle.counting.proofs.Cases.{and-left}
 use Rattle.test.proofs.Plans.{blocking-is, longest-cases, plan-active, plan-bounded}
@@ -49,9 +49,7 @@ module _ {tb : Table} {ps : List ℕ} {i set b : ℕ} (p : Placed tb ps i set b)
       let a = plan-active tb (p .planned .sound) (p .planned .busy) (planOf ps) (p .planned .plan) i (p .row) in
       record {
         period = a .0;
-        active =
-            active-same tb P (marked set) b i (agree-sym tb (marked set) P agree)
-            (subst (λ x. Active tb P x i (a .0)) (sym blocked) (a .1));
+        active = active-same tb P (marked set) b i (agree-sym tb agree) (rw blocked (a .1));
         within = a .2;
         some = omega arith;
         lower = a .1 .low;

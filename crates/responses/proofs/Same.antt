@@ -14,8 +14,8 @@ use Rattle.test.proofs.Sides.{active-side-is, start-side-is}
 abbrev pub Agree : Table → (ℕ → Bool) → (ℕ → Bool) → Type 0
 Agree tb P Q = (j : ℕ) → j < tb .n → P j ≡ Q j
 
-pub agree-sym : (tb : Table) (P Q : ℕ → Bool) → Agree tb P Q → Agree tb Q P
-agree-sym tb P Q same j l = sym (same j l)
+pub agree-sym : (tb : Table) {P Q : ℕ → Bool} → Agree tb P Q → Agree tb Q P
+agree-sym tb same j l = sym (same j l)
 
 module _ (tb : Table) (P Q : ℕ → Bool) (b i : ℕ) (same : Agree tb P Q) where
   active-side-same : (t : ℕ) → active-side tb P b i t ≡ active-side tb Q b i t
@@ -47,5 +47,5 @@ response-same {tb} {P} {Q} {b} {b′} {i} {q} {R} same e r =
       job = r .job;
       counts = r .counts;
       reached = finish-same tb P Q b i same (r .reached);
-      highest = λ k f h x. r .highest k f h (finish-same tb Q P b i (agree-sym tb P Q same) x);
+      highest = λ k f h x. r .highest k f h (finish-same tb Q P b i (agree-sym tb same) x);
     })

@@ -9,9 +9,8 @@ use Rattle.counting.proofs.Least.{Climbing, climbing-below, climbing-step, clim
 use Rattle.tables.specs.Table.{Table}
 use Rattle.test.specs.Test.{upto, jobs, Start, active-side, start-side, Response}
 use Rattle.test.proofs.Sides.{start-side-mono}
-use Rattle.test.proofs.Starts.{jobs-some, start-next}
-use Rattle.sides.proofs.Lower.{start-first}
-use Rattle.responses.proofs.Jobs.{Working, job-exists, job-after}
+use Rattle.test.proofs.Starts.{jobs-some}
+use Rattle.responses.proofs.Jobs.{Working, first-ends, job-exists, job-known, next-low}
 use Rattle.responses.proofs.Largest.{Passed, passed-none, passed-more, passed-all}
 use Rattle.choice.specs.Choice.{Fits}
 
@@ -45,7 +44,7 @@ module _ {tb : Table} {P : ℕ → Bool} {b i q L : ℕ} (w : Working tb P b i q
         low = omega arith;
         high = g;
         climbing = from-below 1 (least - q) (omega arith) g
-            (λ t st. omega (arith, start-first tb P b i (w .positive) (w .row) (w .most) st));
+            (λ t st. omega (arith, first-ends w st));
         met = λ j t x y. absurd (omega arith);
         passed = passed-none tb P b i q;
       }
@@ -91,12 +90,12 @@ module _ {tb : Table} {P : ℕ → Bool} {b i q L : ℕ} (w : Working tb P b i q
 
       -- it ends no sooner than it is released
       pub trial-after : (k - 1) * tb .T i ≤ s + q
-      trial-after = omega (arith, job-after w (k - 1) counts starts)
+      trial-after = omega (arith, job-known w (k - 1) counts starts .after)
 
       kept : Passed tb P b i q k (max R (s + q - (k - 1) * tb .T i))
       kept =
           let z : k - 1 + 1 ≡ k = omega (arith, t .low) in
-          rw z at (passed-more (t .passed) starts (job-after w (k - 1) counts starts))
+          rw z at (passed-more (t .passed) starts (job-known w (k - 1) counts starts))
 
       -- in time: the jobs up to k met their deadlines
       module _ (h : s + q ≤ due tb i k) where
@@ -117,8 +116,7 @@ module _ {tb : Table} {P : ℕ → Bool} {b i q L : ℕ} (w : Working tb P b i q
               high = omega arith;
               climbing =
                   from-below (k + 1) (s + tb .C i) (omega arith) (omega arith)
-                  (λ u st. start-next tb P b i (w .positive) (w .row) q (w .some) (w .most) k s u (t .low)
-                  (climbing-stops (t .climbing) e) (rw add-one at st));
+                  (λ u st. next-low w k (t .low) (climbing-stops (t .climbing) e) (rw add-one at st));
               met = met-more;
               passed = let z : k + 1 - 1 ≡ k = omega arith in rw z kept;
             }

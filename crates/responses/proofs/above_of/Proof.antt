@@ -16,26 +16,21 @@ Inv-loop plan n rank set₀ i₀ set i = (i ≤ n) × Above (planOf plan) i rank
 abbrev μ-loop : tie.MeasureT-loop
 μ-loop plan n rank set₀ i₀ set i = n - i
 
-loop-holds : tie.Need-loop-holds Inv-loop μ-loop
-loop-holds c = (search needs, above-none (planOf (c .before .args .plan .now)) (c .before .args .rank))
-
 more-requires : tie.Need-more-requires Inv-loop μ-loop
 more-requires c κs =
-    let here = c .before .before .before .loop in
-    let a = c .before .before .before .before .before .args in
-    (omega arith, above-apart (planOf (a .plan .now)) (a .rank) (here .i) (here .set) (here .inv .1))
+    let l = c .before .before .before in
+    let a = l .before .before .args in
+    (omega arith, above-apart (planOf (a .plan .now)) (a .rank) _ _ (l .loop .inv .1))
 
 loop-again : tie.Need-loop-again Inv-loop μ-loop
 loop-again c =
-    let here = c .before .before .before .loop in
-    let a = c .before .before .before .before .before .args in
+    let l = c .before .before .before in
+    let a = l .before .before .args in
     let p = planOf (a .plan .now) in (
       search needs,
       ⊎-elim
-          (λ w. rw (w .2) (above-more p (a .rank) (here .i) (here .set) (w .1 .result) (here .inv .1)
-          (let g = w .0 .taken in omega arith) (w .1 .ensures)))
-          (λ w. rw (w .1) (above-same p (a .rank) (here .i) (here .set) (here .inv .1)
-          (let g = w .0 .left in omega arith)))
+          (λ m. rw (m .2) (above-more p (a .rank) _ _ (l .loop .inv .1) _ (m .0 .taken) (m .1 .ensures)))
+          (λ m. rw (m .1) (above-same p (a .rank) _ _ (l .loop .inv .1) (m .0 .left)))
           (c .if1 .came),
     )
 
@@ -47,5 +42,6 @@ returns c =
 pub above-of-spec : {M : Type 1} → statement M
 above-of-spec =
     tie.close
-    (tie.spec Inv-loop μ-loop loop-holds (λ c. search needs) (λ c. search needs) (λ c. search needs)
-    (λ c. search needs) more-requires (λ c. search needs) (λ c. search needs) loop-again returns)
+    (tie.spec Inv-loop μ-loop (λ c. (search needs, above-none (planOf (c .before .args .plan .now)) _))
+    (λ c. search needs) (λ c. search needs) (λ c. search needs) (λ c. search needs) more-requires
+    (λ c. search needs) (λ c. search needs) loop-again returns)

@@ -19,9 +19,6 @@ abbrev μ-loop : tie.MeasureT-loop
 loop-holds : tie.Need-loop-holds Inv-loop μ-loop
 loop-holds c = (search needs, sym (longest-none (planOf (c .args .plan .now)) (c .args .rank)))
 
-cast-len : tie.Need-cast-len Inv-loop μ-loop
-cast-len c = omega (arith, c .shared-slice-known2 .given (2 * c .before .before .before .before .loop .i + 1))
-
 loop-again : tie.Need-loop-again Inv-loop μ-loop
 loop-again c =
     let a = c .before .before .before .before .args in
@@ -38,13 +35,11 @@ loop-again c =
 
 -- all rows are passed
 blocked : (c : tie.After-loop Inv-loop μ-loop) (b : ℕ) → b ≡ pred (c .before .loop .longest) →
-    Blocks (planOf (c .before .before .args .plan .now)) (c .before .before .args .n) (c .before .before .args .rank) b
+    let a = c .before .before .args in Blocks (planOf (a .plan .now)) (a .n) (a .rank) b
 blocked c b e =
     let a = c .before .before .args in
-    let here = c .before .loop in
-    let all : here .i ≡ a .n = omega arith in
-    blocking-in (planOf (a .plan .now)) (a .rank) (a .n) b
-    (e ∙ ap pred (here .inv .1) ∙ ap (λ m. pred (longest-in (planOf (a .plan .now)) (a .rank) m)) all)
+    let all : a .n ≡ c .before .loop .i = omega arith in
+    blocking-in (planOf (a .plan .now)) (a .rank) (a .n) b (rw all (e ∙ ap pred (c .before .loop .inv .1)))
 
 returns : tie.Need-returns Inv-loop μ-loop
 returns c = blocked (c .before) 0 (let t = c .if3 .taken in omega arith)
@@ -56,5 +51,6 @@ pub blocking-of-spec : {M : Type 1} → statement M
 blocking-of-spec =
     tie.close
     (tie.spec Inv-loop μ-loop loop-holds (λ c. search needs) (λ c. search needs) (λ c. search needs)
-    (λ c. search needs) (λ c. search needs) (λ c. search needs) cast-len (λ c. search needs)
-    (λ c. search needs) loop-again returns (λ c. search needs) returns-2)
+    (λ c. search needs) (λ c. search needs) (λ c. search needs)
+    (λ c. omega (arith, c .shared-slice-known2 .given (2 * c .before .before .before .before .loop .i + 1)))
+    (λ c. search needs) (λ c. search needs) loop-again returns (λ c. search needs) returns-2)

@@ -1,6 +1,5 @@
 -- `responses` meets its contract: each row passed has its response in its place, and the places not reached hold 0.
 use Prim.Native.Nat.{ℕ, _≤_, _<_, _-_}
-use mathlib.Core.List.{List}
 use mathlib.Core.Path.{_≡_, refl, _∙_}
 use native.Mathlib.Omega.{arith}
 use lib.ListN.{length-set, length, getD}
@@ -31,31 +30,32 @@ module _ (a : tie.After-asks-of Inv-loop μ-loop) where
   abbrev s : tie.Start Inv-loop μ-loop
   s = a .before .before
 
+  abbrev tb : Table
+  tb = tableIn (s .args .rows) (s .args .n)
+
   abbrev asked : Table
   asked = askingIn (a .asks-of .result) (s .args .n)
 
-  abbrev ps : List ℕ
-  ps = s .args .plan .now
-
-  same : asked ≡ asking (tableIn (s .args .rows) (s .args .n))
+  same : asked ≡ asking tb
   same = a .asks-of .ensures .same (s .args .n)
 
-  planned : Planned asked ps
-  planned = planned-for (tableIn (s .args .rows) (s .args .n)) same ps (s .pre)
+  planned : Planned asked (s .args .plan .now)
+  planned = planned-for tb same (s .args .plan .now) (s .pre)
 
 -- the row in hand, with the rows above it and its blocking
 module _ (c : tie.After-blocking-of Inv-loop μ-loop) where
+  abbrev l : tie.In-loop Inv-loop μ-loop
+  l = c .before .before .before .before
+
   abbrev A : tie.After-asks-of Inv-loop μ-loop
-  A = c .before .before .before .before .before .before
+  A = l .before .before
 
-  abbrev i : ℕ
-  i = c .before .before .before .before .before .loop .i
-
-  placed : Placed (asked A) (ps A) i (c .before .above-of .result) (c .blocking-of .result)
+  placed : Placed (asked A) (s A .args .plan .now) (l .before .loop .i) (c .before .above-of .result)
+      (c .blocking-of .result)
   placed =
       record {
         planned = planned A;
-        row = c .before .before .before .before .loop-test .taken;
+        row = l .loop-test .taken;
         over = c .before .above-of .ensures;
         under = c .blocking-of .ensures;
       }
@@ -63,45 +63,32 @@ module _ (c : tie.After-blocking-of Inv-loop μ-loop) where
 loop-holds : tie.Need-loop-holds Inv-loop μ-loop
 loop-holds c = (search needs, refl, below-none _, λ j _. zeros 32 j)
 
-above-of-requires : tie.Need-above-of-requires Inv-loop μ-loop
-above-of-requires c κs = let p = planned (c .before .before .before .before) in (p .sound .few, p .whole)
-
-blocking-of-requires : tie.Need-blocking-of-requires Inv-loop μ-loop
-blocking-of-requires c κs = let p = planned (c .before .before .before .before .before) in (p .sound .few, p .whole)
-
 cast-response : tie.Need-cast-response Inv-loop μ-loop
 cast-response c =
-    let d = c .before in
-    let p = planned (A d) in
-    let r = placed d .row in
-    omega (arith, p .plan .len-high (i d) r, p .sound .C (i d) r .high)
+    let w = placed (c .before) in
+    omega (arith, w .planned .plan .len-high _ (w .row), w .planned .sound .C _ (w .row) .high)
 
 response-requires : tie.Need-response-requires Inv-loop μ-loop
 response-requires c κs =
-    let d = c .before in
-    let p = planned (A d) in
-    let r = placed d .row in (
-      record { sound = p .sound; inside = set-inside (placed d) },
-      blocking-small (placed d),
-      omega (arith, r),
-      p .plan .len-low (i d) r,
-      p .plan .len-high (i d) r,
-      active-here (placed d),
+    let w = placed (c .before) in
+    let p = w .planned in (
+      record { sound = p .sound; inside = set-inside w },
+      blocking-small w,
+      w .row,
+      p .plan .len-low _ (w .row),
+      p .plan .len-high _ (w .row),
+      active-here w,
     )
-
-cast-times : tie.Need-cast-times Inv-loop μ-loop
-cast-times c = omega (arith, response-small (placed (c .before .before)) (c .response .ensures))
 
 loop-again : tie.Need-loop-again Inv-loop μ-loop
 loop-again c =
-    let d = c .before .before in
-    let here = d .before .before .before .before .before .loop in (
+    let w = placed (c .before .before) in
+    let here = l (c .before .before) .before .loop in (
       search needs,
       length-set (here .times) (here .i) (c .response .result) ∙ here .inv .1,
-      stored (ResponseOf (asked (A d)) (planOf (ps (A d)))) (here .times) (here .i) (c .response .result)
-          (omega (arith, placed d .row, planned (A d) .sound .few, here .inv .1))
-          (here .inv .2)
-          (response-here (placed d) (c .response .ensures)),
+      stored (ResponseOf _ _) (here .times) (here .i) (c .response .result)
+          (omega (arith, w .row, w .planned .sound .few, here .inv .1)) (here .inv .2)
+          (response-here w (c .response .ensures)),
       unreached (here .times) (here .i) (c .response .result) (here .inv .3),
     )
 
@@ -110,8 +97,7 @@ returns c =
     let a = c .before .before in
     let here = c .before .loop in
     record {
-      each = λ j h. plan-response-of (tableIn (s a .args .rows) (s a .args .n)) (same a) (ps a)
-          (here .inv .2 j (omega arith));
+      each = λ j h. plan-response-of (tb a) (same a) (s a .args .plan .now) (here .inv .2 j (omega arith));
       past = λ j h. here .inv .3 j (omega arith);
       whole = here .inv .1;
     }
@@ -120,6 +106,9 @@ pub responses-spec : {M : Type 1} → statement M
 responses-spec =
     tie.close
     (tie.spec Inv-loop μ-loop (λ c κs. search needs) loop-holds (λ c. search needs) (λ c. search needs)
-    (λ c. search needs) (λ c. search needs) (λ c. search needs) (λ c. search needs) above-of-requires
-    blocking-of-requires cast-response response-requires cast-times (λ c. search needs) (λ c. search needs)
-    (λ c. search needs) (λ c. search needs) loop-again returns)
+    (λ c. search needs) (λ c. search needs) (λ c. search needs) (λ c. search needs)
+    (λ c κs. let p = planned (c .before .before .before .before) in (p .sound .few, p .whole))
+    (λ c κs. let p = planned (c .before .before .before .before .before) in (p .sound .few, p .whole))
+    cast-response response-requires
+    (λ c. omega (arith, response-small (placed (c .before .before)) (c .response .ensures)))
+    (λ c. search needs) (λ c. search needs) (λ c. search needs) (λ c. search needs) loop-again returns)

@@ -19,8 +19,8 @@ use Rattle.test.proofs.Response.{response-unique}
 use Rattle.sides.specs.inside.Asks.{asking, askingIn}
 use Rattle.sides.specs.inside.Level.{Level}
 use Rattle.sides.proofs.Asks.{sound-for, run-for, active-side-of, start-side-of}
-use Rattle.sides.proofs.Lower.{within-first, run-first}
-use Rattle.responses.proofs.Jobs.{Working, jobs-few}
+use Rattle.sides.proofs.Lower.{within-first}
+use Rattle.responses.proofs.Jobs.{Working, jobs-few, length-first}
 use Rattle.choice.specs.Choice.{Fits}
 use Rattle.search.proofs.Period.{positive, blocking-within, period-exists, period-within, side-same, period-same}
 use Rattle.search.proofs.Trial.{Trial, trial-first, trial-within, trial-again, trial-misses, trial-after}
@@ -349,12 +349,6 @@ less-requires-3 c κs =
 lengths-holds : Under tie.Need-lengths-holds
 lengths-holds c = (narrowed-first _ _ _ _ _, search needs)
 
-sub-s : Under tie.Need-sub-s
-sub-s c =
-    let h = R c in
-    let first = run-first (tb (S h)) (P h) (b (S h)) (i h) (working c .positive) (inside h) in
-    omega (arith, working c .most, least-is h)
-
 jobs-holds : Under tie.Need-jobs-holds
 jobs-holds c = trial-first (working c) (least (R c)) (least-is (R c))
 
@@ -462,10 +456,10 @@ choose-spec =
     (λ c κs. (c .next2 .ensures .inside, c .next2 .ensures .first .holds)) less-requires-3 (λ c. search needs)
     (λ c. search needs) (λ c. search needs) (λ c. search needs) (λ c. search needs)
     (λ c κs. let h = c .before .before .before in (spaced h .low, omega (arith, short h, spaced h .high)))
-    (λ c κs. search needs) (λ c. omega (arith, top-le c, runs (H c) .high)) lengths-holds sub-s jobs-holds
-    (λ c. c .jobs .inv .low) (λ c. omega (arith, released c)) (λ c. search needs) add-due loop-holds
-    (λ c. omega (arith, within c)) (λ c. search needs) start-side-requires loop-less loop-again
-    (λ c. omega (arith, within (E c)))
+    (λ c κs. search needs) (λ c. omega (arith, top-le c, runs (H c) .high)) lengths-holds
+    (λ c. omega (arith, length-first (working c), least-is (R c))) jobs-holds (λ c. c .jobs .inv .low)
+    (λ c. omega (arith, released c)) (λ c. search needs) add-due loop-holds (λ c. omega (arith, within c))
+    (λ c. search needs) start-side-requires loop-less loop-again (λ c. omega (arith, within (E c)))
     (λ c. omega (arith, trial-after (working (I (E c))) (E c .loop .inv) (repeats c))) (λ c κs. search needs)
     (λ c. omega (arith, job-few (J (E (c .before .before)))))
     (λ c. let a = E (c .before .before) in omega (arith, within a, runs (R (I a)) .high)) jobs-less jobs-again

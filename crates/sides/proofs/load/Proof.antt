@@ -76,5 +76,5 @@ load-spec =
     round-up-requires (λ c. search needs) (λ c. search needs)
     (λ c. omega (arith, runs (c .before .before .before) .high)) (λ c. omega (arith, part (c .before)))
     (λ c. omega (arith, part (c .before), summed (c .before .before .before)))
-    (λ c κs. let n = c .before .before .before .next .ensures in (n .inside, n .first .holds)) (λ c. search needs)
-    loop-again returns)
+    (λ c κs. let n = c .before .before .before .next .ensures in (n .inside, n .first .holds))
+    (λ c. search needs) loop-again returns)

@@ -23,6 +23,7 @@ verdict-spec =
     tie.close
     (tie.spec (λ c κs. search needs) (λ c. search needs) (λ c. search needs) (λ c. search needs)
     (λ c κs. rows-ask _ (c .before .before .before .check-table .ensures) (c .before .checked2 .given .1))
-    verdict-of-requires (λ c. shape-refuses _ (c .before .before .check-table .ensures) _ (c .enum-told .given .1))
+    verdict-of-requires
+    (λ c. shape-refuses _ (c .before .before .check-table .ensures) _ (c .enum-told .given .1))
     (λ c. range-refuses _ (c .before .before .before .check-table .ensures) _ _ (c .before .checked .given .1))
     returns-3)

@@ -35,5 +35,5 @@ returns c =
 pub write-spec : {M : Type 1} → statement M
 write-spec =
     tie.close
-    (tie.spec Inv-loop μ-loop loop-holds (λ c. search needs) (λ c. search needs) (λ c. search needs)
-    inside (λ c. search needs) (λ c. search needs) loop-again (λ c. c .before .loop .inv .1 .whole) returns)
+    (tie.spec Inv-loop μ-loop loop-holds (λ c. search needs) (λ c. search needs) (λ c. search needs) inside
+    (λ c. search needs) (λ c. search needs) loop-again (λ c. c .before .loop .inv .1 .whole) returns)
