@@ -1,10 +1,9 @@
--- Any two picks that the promise of `choose` allows are equal; the promise of `larger` is an equation.
+-- Any two picks that the promise of `choose` allows are equal.
 use Prim.Native.Nat.{ℕ}
-use mathlib.Core.Path.{_≡_, refl, subst}
+use mathlib.Core.Path.{_≡_, refl}
 use mathlib.Core.Bool.{Bool}
 use Rattle.counting.specs.Sum.{without}
 use Rattle.tables.specs.Table.{Table}
-use Rattle.test.specs.Test.{Response}
 use Rattle.test.proofs.Response.{response-unique}
 use Rattle.choice.specs.Choice.{Takes, NoneFits}
 use Rattle.choice.proofs.Level.{takes-unique}
@@ -24,10 +23,7 @@ module _ (tb : Table) (U : ℕ → Bool) (b : ℕ) (tried : ℕ → Bool) where
   pub picked-unique : (a c : Pick) → Picked tb U b tried a → Picked tb U b tried c → a ≡ c
   picked-unique (Taken y q R) (Taken z r S) x w =
       let t = takes-unique tb U b tried y q z r (x .0) (w .0) in
-      taken-same (t .0) (t .1)
-      (response-unique tb (without U z) b z r R S
-      (subst (λ l. Response tb (without U z) b z l R) (t .1)
-      (subst (λ j. Response tb (without U j) b j q R) (t .0) (x .1))) (w .1))
+      taken-same (t .0) (t .1) (response-unique tb (without U z) b z r R S (rw (t .0, t .1) at (x .1)) (w .1))
   picked-unique (Taken y q R) Nothing x w = absurd (takes-not-none (x .0) w)
   picked-unique Nothing (Taken z r S) x w = absurd (takes-not-none (w .0) x)
   picked-unique Nothing Nothing x w = refl

@@ -6,4 +6,3 @@ pub mod Small
 pub mod Walk
 pub mod Unique
 pub mod Lower
-pub mod PeriodsUnique

@@ -62,8 +62,6 @@ returns-4 c =
     (f .fill .ensures)
 
 pub plan-of-spec : {M : Type 1} → statement M
-plan-of-spec =
-    tie.close
-    (tie.spec (λ c. search needs) returns (λ c κs. search needs) (λ c. search needs) returns-2
-    (λ c. search needs) (λ c κs. (S c .pre, busy c)) returns-3 write-requires (λ c. search needs)
+plan-of-spec = tie.close (tie.spec (λ c. search needs) returns (λ c κs. search needs) (λ c. search needs)
+    returns-2 (λ c. search needs) (λ c κs. (S c .pre, busy c)) returns-3 write-requires (λ c. search needs)
     (λ c. search needs) (λ c. search needs) returns-4)

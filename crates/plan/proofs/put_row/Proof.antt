@@ -8,5 +8,5 @@ returns : tie.Need-returns
 returns c = put-three (c .args .out .now) (c .args .rank) (c .args .len) (c .args .response) (c .pre)
 
 pub put-row-spec : {M : Type 1} → statement M
-put-row-spec =
-    tie.close (tie.spec (λ c. search needs) (λ c. search needs) (λ c. search needs) (λ c. search needs) returns)
+put-row-spec = tie.close (tie.spec (λ c. search needs) (λ c. search needs) (λ c. search needs) (λ c. search needs)
+    returns)

@@ -40,8 +40,7 @@ returns c =
     rw e at (c .before .loop .inv .1)
 
 pub above-of-spec : {M : Type 1} → statement M
-above-of-spec =
-    tie.close
-    (tie.spec Inv-loop μ-loop (λ c. (search needs, above-none (planOf (c .before .args .plan .now)) _))
-    (λ c. search needs) (λ c. search needs) (λ c. search needs) (λ c. search needs) more-requires
-    (λ c. search needs) (λ c. search needs) loop-again returns)
+above-of-spec = tie.close (tie.spec Inv-loop μ-loop
+    (λ c. (search needs, above-none (planOf (c .before .args .plan .now)) _)) (λ c. search needs)
+    (λ c. search needs) (λ c. search needs) (λ c. search needs) more-requires (λ c. search needs)
+    (λ c. search needs) loop-again returns)

@@ -47,10 +47,7 @@ module _ (a : tie.After-active-period Inv-loop μ-loop) where
   abbrev S : tie.Start Inv-loop μ-loop
   S = a .before .before .before .before
 
-  abbrev L : ℕ
-  L = a .active-period .result
-
-  working : Working (tb S) (P S) (S .args .b) (S .args .i) (S .args .q) L
+  working : Working (tb S) (P S) (S .args .b) (S .args .i) (S .args .q) (a .active-period .result)
   working =
       let p = S .pre in
       record {
@@ -70,22 +67,19 @@ module _ (c : tie.In-loop Inv-loop μ-loop) where
   abbrev k : ℕ
   k = c .before .loop .k
 
-  counts : k < jobs (tb (S A)) (P (S A)) (S A .args .b) (S A .args .i) (L A)
+  counts : k < jobs (tb (S A)) (P (S A)) (S A .args .b) (S A .args .i) (A .active-period .result)
   counts = omega (arith, c .loop-test .taken, c .before .before .round-up .ensures)
 
 -- its start
 module _ (c : tie.After-start Inv-loop μ-loop) where
-  abbrev I : tie.In-loop Inv-loop μ-loop
-  I = c .before
-
   abbrev Z : tie.Start Inv-loop μ-loop
-  Z = S (A I)
+  Z = S (A (c .before))
 
-  starts : Start (tb Z) (P Z) (Z .args .b) (Z .args .i) (Z .args .q) (suc (k I)) (c .start .result)
-  starts = rw (add-one (k I)) at (c .start .ensures)
+  starts : Start (tb Z) (P Z) (Z .args .b) (Z .args .i) (Z .args .q) (suc (k (c .before))) (c .start .result)
+  starts = rw (add-one (k (c .before))) at (c .start .ensures)
 
-  job : Job (tb Z) (Z .args .i) (Z .args .q) (k I) (c .start .result)
-  job = job-known (working (A I)) (k I) (counts I) starts
+  job : Job (tb Z) (Z .args .i) (Z .args .q) (k (c .before)) (c .start .result)
+  job = job-known (working (A (c .before))) (k (c .before)) (counts (c .before)) starts
 
 active-period-requires : tie.Need-active-period-requires Inv-loop μ-loop
 active-period-requires c κs =
@@ -120,27 +114,25 @@ loop-again c =
     ⊎-elim (λ w. omega (arith, w .0 .taken, w .1)) (λ w. omega (arith, w .0 .left, w .1)) (c .if1 .came) in (
       rw e (passed-more (l .inv .0) (starts d) (job d)),
       omega (arith, d .before .loop-test .taken),
-      λ s st. next-low (working (A (I d))) (suc (l .k)) (omega arith) (starts d) (rw (add-one (l .k)) at st),
+      λ s st. next-low (working (A (d .before))) (suc (l .k)) (omega arith) (starts d) (rw (add-one (l .k)) at st),
     )
 
 returns : tie.Need-returns Inv-loop μ-loop
 returns c =
     let a = c .before .before .before in
     let l = c .before .loop in
-    let all : l .k ≡ jobs (tb (S a)) (P (S a)) (S a .args .b) (S a .args .i) (L a) =
+    let all : l .k ≡ jobs (tb (S a)) (P (S a)) (S a .args .b) (S a .args .i) (a .active-period .result) =
     omega (arith, c .loop-test .left, c .before .before .round-up .ensures) in
     passed-all (working a) (rw all at (l .inv .0))
 
 pub response-spec : {M : Type 1} → statement M
-response-spec =
-    tie.close
-    (tie.spec Inv-loop μ-loop (λ c. search needs) (λ c. search needs) (λ c. search needs)
+response-spec = tie.close (tie.spec Inv-loop μ-loop (λ c. search needs) (λ c. search needs) (λ c. search needs)
     (λ c. omega (arith, run (c .before) .high)) (λ c. search needs) (λ c. search needs) (λ c. search needs)
     (λ c. omega (arith, spacing (c .before .before) .high))
     (λ c κs. let p = c .before .before .pre in (p .0, p .1, p .2, omega arith)) active-period-requires
     (λ c κs. let t = spacing (S c) in (t .low, omega (arith, working c .within, t .high)))
-    (λ c. omega (arith, length-first (working (c .before)), c .before .before .active-side .ensures))
-    loop-holds (λ c. omega (arith, counts c, jobs-few (working (A c)))) start-requires
-    (λ c. omega (arith, job c .ends)) (λ c. omega (arith, job c .released)) (λ c. omega (arith, job c .after))
-    (λ c. omega (arith, job (c .before) .ends, run (Z (c .before)) .high)) (λ c. search needs)
-    (λ c. search needs) loop-again returns)
+    (λ c. omega (arith, length-first (working (c .before)), c .before .before .active-side .ensures)) loop-holds
+    (λ c. omega (arith, counts c, jobs-few (working (A c)))) start-requires (λ c. omega (arith, job c .ends))
+    (λ c. omega (arith, job c .released)) (λ c. omega (arith, job c .after))
+    (λ c. omega (arith, job (c .before) .ends, run (Z (c .before)) .high)) (λ c. search needs) (λ c. search needs)
+    loop-again returns)

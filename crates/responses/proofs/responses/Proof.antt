@@ -103,12 +103,10 @@ returns c =
     }
 
 pub responses-spec : {M : Type 1} → statement M
-responses-spec =
-    tie.close
-    (tie.spec Inv-loop μ-loop (λ c κs. search needs) loop-holds (λ c. search needs) (λ c. search needs)
-    (λ c. search needs) (λ c. search needs) (λ c. search needs) (λ c. search needs)
+responses-spec = tie.close (tie.spec Inv-loop μ-loop (λ c κs. search needs) loop-holds (λ c. search needs)
+    (λ c. search needs) (λ c. search needs) (λ c. search needs) (λ c. search needs) (λ c. search needs)
     (λ c κs. let p = planned (c .before .before .before .before) in (p .sound .few, p .whole))
     (λ c κs. let p = planned (c .before .before .before .before .before) in (p .sound .few, p .whole))
     cast-response response-requires
-    (λ c. omega (arith, response-small (placed (c .before .before)) (c .response .ensures)))
-    (λ c. search needs) (λ c. search needs) (λ c. search needs) (λ c. search needs) loop-again returns)
+    (λ c. omega (arith, response-small (placed (c .before .before)) (c .response .ensures))) (λ c. search needs)
+    (λ c. search needs) (λ c. search needs) (λ c. search needs) loop-again returns)

@@ -23,9 +23,6 @@ loop-holds c =
     let w = c .pre .6 in
     reached-first (start-side-mono _ _ _ _ _ _) (w .starts) (w .within) (omega arith) (omega arith) (w .lower)
 
-start-side-requires : tie.Need-start-side-requires Inv-loop μ-loop
-start-side-requires c κs = let p = c .before .pre in (p .0, p .1, p .2, p .3, p .4, p .5, c .loop .inv .1)
-
 loop-again : tie.Need-loop-again Inv-loop μ-loop
 loop-again c =
     let a = c .before in
@@ -41,6 +38,6 @@ returns : tie.Need-returns Inv-loop μ-loop
 returns c = climbing-stops (c .before .before .loop .inv .0) (sym (c .if1 .taken) ∙ c .before .start-side .ensures)
 
 pub start-spec : {M : Type 1} → statement M
-start-spec =
-    tie.close
-    (tie.spec Inv-loop μ-loop loop-holds start-side-requires loop-less loop-again returns)
+start-spec = tie.close (tie.spec Inv-loop μ-loop loop-holds
+    (λ c κs. let p = c .before .pre in (p .0, p .1, p .2, p .3, p .4, p .5, c .loop .inv .1)) loop-less loop-again
+    returns)

@@ -408,9 +408,6 @@ lengths-less c = outcome (c .before) .1
 lengths-again : Under tie.Need-lengths-again
 lengths-again c = (outcome (c .before) .0, c .next-length .ensures)
 
-rows-less : Under tie.Need-rows-less
-rows-less c = pos-of-ne-zero (G (c .before .before) .before .before .before .rows-test .taken)
-
 rows-again : Under tie.Need-rows-again
 rows-again c = seen-one (c .if6 .taken) (better (c .before .before) (c .before .if5 .taken))
 
@@ -447,12 +444,10 @@ returns-2 c =
     (seen-all w (c .before .rows-test .left) some, w .timed some)
 
 pub choose-spec : {M : Type 1} → statement M
-choose-spec =
-    tie.close
-    (tie.spec Inv-loop μ-loop Inv-jobs μ-jobs Inv-lengths μ-lengths Inv-rows μ-rows (λ c κs. search needs)
-    (λ c κs. c .before .pre .some) (λ c κs. (c .next .ensures .inside, c .next .ensures .first .holds))
-    (λ c. search needs) active-side-requires (λ c. search needs) active-period-requires rows-holds
-    (λ c κs. pos-of-ne-zero (c .rows-test .taken))
+choose-spec = tie.close (tie.spec Inv-loop μ-loop Inv-jobs μ-jobs Inv-lengths μ-lengths Inv-rows μ-rows
+    (λ c κs. search needs) (λ c κs. c .before .pre .some)
+    (λ c κs. (c .next .ensures .inside, c .next .ensures .first .holds)) (λ c. search needs) active-side-requires
+    (λ c. search needs) active-period-requires rows-holds (λ c κs. pos-of-ne-zero (c .rows-test .taken))
     (λ c κs. (c .next2 .ensures .inside, c .next2 .ensures .first .holds)) less-requires-3 (λ c. search needs)
     (λ c. search needs) (λ c. search needs) (λ c. search needs) (λ c. search needs)
     (λ c κs. let h = c .before .before .before in (spaced h .low, omega (arith, short h, spaced h .high)))
@@ -463,7 +458,8 @@ choose-spec =
     (λ c. omega (arith, trial-after (working (I (E c))) (E c .loop .inv) (repeats c))) (λ c κs. search needs)
     (λ c. omega (arith, job-few (J (E (c .before .before)))))
     (λ c. let a = E (c .before .before) in omega (arith, within a, runs (R (I a)) .high)) jobs-less jobs-again
-    (λ c. let x = I (c .before .before) in omega (arith, working x .most, runs (R x) .high))
-    next-length-requires lengths-less lengths-again rows-less rows-again
+    (λ c. let x = I (c .before .before) in omega (arith, working x .most, runs (R x) .high)) next-length-requires
+    lengths-less lengths-again
+    (λ c. pos-of-ne-zero (G (c .before .before) .before .before .before .rows-test .taken)) rows-again
     (λ c. G (c .before .before) .before .less2 .ensures .smaller) rows-again-2
     (λ c. G (c .before) .before .less2 .ensures .smaller) rows-again-3 returns cast-t58 cast-t59 returns-2)

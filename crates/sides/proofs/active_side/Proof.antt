@@ -32,9 +32,6 @@ others c =
     let s = c .before .before .before .before in
     rw (c .load .ensures) (load-small (tb s) (s .pre .0 .sound) (s .args .t) (s .pre .3) (marked (s .args .above)))
 
-round-up-requires : tie.Need-round-up-requires
-round-up-requires c κs = let s = c .before in (spaced s .low, omega (arith, spaced s .high, s .pre .3))
-
 returns : tie.Need-returns
 returns c =
     let s = c .before .before .before .before in
@@ -42,10 +39,9 @@ returns c =
     (sym (active-side-is (tb s) (marked (s .args .above)) (s .args .b) (s .args .i) (s .args .t)))
 
 pub active-side-spec : {M : Type 1} → statement M
-active-side-spec =
-    tie.close
-    (tie.spec (λ c. search needs) (λ c. search needs) (λ c. search needs) (λ c. search needs)
-    (λ c. omega (arith, spaced (c .before) .high)) round-up-requires (λ c. search needs) (λ c. search needs)
-    (λ c. omega (arith, runs (c .before .before .before) .high)) (λ c. omega (arith, part (c .before)))
-    (λ c. omega (arith, part (c .before))) (λ c κs. search needs)
+active-side-spec = tie.close (tie.spec (λ c. search needs) (λ c. search needs) (λ c. search needs)
+    (λ c. search needs) (λ c. omega (arith, spaced (c .before) .high))
+    (λ c κs. let s = c .before in (spaced s .low, omega (arith, spaced s .high, s .pre .3))) (λ c. search needs)
+    (λ c. search needs) (λ c. omega (arith, runs (c .before .before .before) .high))
+    (λ c. omega (arith, part (c .before))) (λ c. omega (arith, part (c .before))) (λ c κs. search needs)
     (λ c. omega (arith, part (c .before .before), others c)) returns)

@@ -14,17 +14,13 @@ abbrev μ-loop : tie.MeasureT-loop
 μ-loop rows asks₀ i₀ asks i = 32 - i
 
 loop-holds : tie.Need-loop-holds Inv-loop μ-loop
-loop-holds c = (
-  search needs,
-  record { whole = refl; runs = λ k h. absurd (omega arith); spacings = λ k h. absurd (omega arith) },
-)
+loop-holds c =
+    (search needs, record { whole = refl; runs = λ k h. absurd (omega arith); spacings = λ k h. absurd (omega arith) })
 
 loop-again : tie.Need-loop-again Inv-loop μ-loop
-loop-again c = (
-  search needs,
-  stored-more (c .before .before .before .args .t1) (c .before .before .loop .asks)
-      (c .before .before .loop .i) (c .before .loop-test .taken) (c .before .before .loop .inv .1),
-)
+loop-again c =
+    let l = c .before .before .loop in
+    (search needs, stored-more _ (l .asks) (l .i) (c .before .loop-test .taken) (l .inv .1))
 
 returns : tie.Need-returns Inv-loop μ-loop
 returns c =
@@ -32,8 +28,6 @@ returns c =
     stored-all (c .before .before .args .t1) (c .before .loop .asks) (search needs) (rw e at (c .before .loop .inv .1))
 
 pub asks-of-spec : {M : Type 1} → statement M
-asks-of-spec =
-    tie.close
-    (tie.spec Inv-loop μ-loop loop-holds (λ c. search needs) (λ c. search needs) (λ c. search needs)
+asks-of-spec = tie.close (tie.spec Inv-loop μ-loop loop-holds (λ c. search needs) (λ c. search needs)
     (λ c. search needs) (λ c. search needs) (λ c. search needs) (λ c. search needs) (λ c. search needs)
-    (λ c. search needs) (λ c. search needs) loop-again returns)
+    (λ c. search needs) (λ c. search needs) (λ c. search needs) loop-again returns)

@@ -37,11 +37,9 @@ module _ (a : tie.After-next Inv-loop μ-loop) where
   spaced = S .pre .0 .sound .T j inside
 
   summed : a .before .before .loop .sum ≤ 32 * most-asked
-  summed = omega (
-    arith,
-    a .before .before .loop .inv .total,
-    load-small tb (S .pre .0 .sound) (S .args .t) (S .pre .1) (marked (S .args .set)),
-  )
+  summed =
+      let all = load-small tb (S .pre .0 .sound) (S .args .t) (S .pre .1) (marked (S .args .set)) in
+      omega (arith, a .before .before .loop .inv .total)
 
 -- what it asks for
 part : (c : tie.After-round-up Inv-loop μ-loop) → let a = c .before .before in
@@ -50,14 +48,6 @@ part c =
     let a = c .before .before in
     rw (c .round-up .ensures) (part-small (tb a) (S a .pre .0 .sound) (S a .args .t) (S a .pre .1) (j a) (inside a))
 
-loop-holds : tie.Need-loop-holds Inv-loop μ-loop
-loop-holds c = walked-none _ _ _ (c .pre .0 .inside)
-
-round-up-requires : tie.Need-round-up-requires Inv-loop μ-loop
-round-up-requires c κs =
-    let a = c .before in
-    (spaced a .low, omega (arith, spaced a .high, S a .pre .1))
-
 loop-again : tie.Need-loop-again Inv-loop μ-loop
 loop-again c =
     let a = c .before .before .before .before in
@@ -65,16 +55,13 @@ loop-again c =
     (walked-more (tb a) (S a .args .set) (S a .args .t) (a .before .before .loop .inv) (a .next .ensures)
     (c .less .ensures))
 
-returns : tie.Need-returns Inv-loop μ-loop
-returns c = walked-all _ _ _ (c .before .loop .inv) (c .loop-test .left)
-
 pub load-spec : {M : Type 1} → statement M
-load-spec =
-    tie.close
-    (tie.spec Inv-loop μ-loop loop-holds (λ c κs. search needs) (λ c. search needs) (λ c. search needs)
-    (λ c. search needs) (λ c. search needs) (λ c. search needs) (λ c. omega (arith, spaced (c .before) .high))
-    round-up-requires (λ c. search needs) (λ c. search needs)
-    (λ c. omega (arith, runs (c .before .before .before) .high)) (λ c. omega (arith, part (c .before)))
+load-spec = tie.close (tie.spec Inv-loop μ-loop (λ c. walked-none _ _ _ (c .pre .0 .inside)) (λ c κs. search needs)
+    (λ c. search needs) (λ c. search needs) (λ c. search needs) (λ c. search needs) (λ c. search needs)
+    (λ c. omega (arith, spaced (c .before) .high))
+    (λ c κs. let a = c .before in (spaced a .low, omega (arith, spaced a .high, S a .pre .1))) (λ c. search needs)
+    (λ c. search needs) (λ c. omega (arith, runs (c .before .before .before) .high))
+    (λ c. omega (arith, part (c .before)))
     (λ c. omega (arith, part (c .before), summed (c .before .before .before)))
-    (λ c κs. let n = c .before .before .before .next .ensures in (n .inside, n .first .holds))
-    (λ c. search needs) loop-again returns)
+    (λ c κs. let n = c .before .before .before .next .ensures in (n .inside, n .first .holds)) (λ c. search needs)
+    loop-again (λ c. walked-all _ _ _ (c .before .loop .inv) (c .loop-test .left)))

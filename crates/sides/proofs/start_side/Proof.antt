@@ -36,18 +36,12 @@ returns : tie.Need-returns
 returns c =
     let s = c .before .before in
     let P = marked (s .args .above) in
-    omega (
-      arith,
-      c .load .ensures,
-      ap (load before (tb s) P) (add-one (s .args .s)),
-      load-upto (tb s) (sound-positive (tb s) (s .pre .0 .sound)) P (s .args .s),
-      start-side-is (tb s) P (s .args .b) (s .args .i) (s .args .q) (s .args .k) (s .args .s),
-    )
+    let is = start-side-is (tb s) P (s .args .b) (s .args .i) (s .args .q) (s .args .k) (s .args .s) in
+    let one = ap (load before (tb s) P) (add-one (s .args .s)) in
+    omega (arith, c .load .ensures, load-upto (tb s) (sound-positive (tb s) (s .pre .0 .sound)) P (s .args .s))
 
 pub start-side-spec : {M : Type 1} → statement M
-start-side-spec =
-    tie.close
-    (tie.spec (λ c. search needs) (λ c. search needs) (λ c. search needs)
+start-side-spec = tie.close (tie.spec (λ c. search needs) (λ c. search needs) (λ c. search needs)
     (λ c. let s = c .before in omega (arith, s .pre .0 .sound .C (s .args .i) (s .pre .2) .high))
     (λ c. omega (arith, runs-small (c .before))) (λ c. omega (arith, whole (c .before)))
     (λ c. omega (arith, runs-small (c .before))) (λ c. search needs) (λ c κs. search needs)

@@ -31,7 +31,5 @@ returns-2 : tie.Need-returns-2 Inv-loop μ-loop
 returns-2 c j h = c .before .loop .inv .1 j (omega arith)
 
 pub in-time-spec : {M : Type 1} → statement M
-in-time-spec =
-    tie.close
-    (tie.spec Inv-loop μ-loop loop-holds (λ c. search needs) (λ c. search needs) (λ c. search needs)
-    (λ c. search needs) returns (λ c. search needs) (λ c. search needs) loop-again returns-2)
+in-time-spec = tie.close (tie.spec Inv-loop μ-loop loop-holds (λ c. search needs) (λ c. search needs)
+    (λ c. search needs) (λ c. search needs) returns (λ c. search needs) (λ c. search needs) loop-again returns-2)

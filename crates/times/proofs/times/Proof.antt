@@ -20,11 +20,9 @@ returns-3 c =
     (λ tb. TimesRest tb (s .args .plan .now) (s .args .out .now)) (t .times-of .ensures)
 
 pub times-spec : {M : Type 1} → statement M
-times-spec =
-    tie.close
-    (tie.spec (λ c κs. search needs) (λ c. search needs) (λ c. search needs) (λ c. search needs)
+times-spec = tie.close (tie.spec (λ c κs. search needs) (λ c. search needs) (λ c. search needs)
+    (λ c. search needs)
     (λ c κs. rows-ask _ (c .before .before .before .check-table .ensures) (c .before .checked2 .given .1))
-    times-of-requires
-    (λ c. shape-refuses _ (c .before .before .check-table .ensures) _ (c .enum-told .given .1))
+    times-of-requires (λ c. shape-refuses _ (c .before .before .check-table .ensures) _ (c .enum-told .given .1))
     (λ c. range-refuses _ (c .before .before .before .check-table .ensures) _ _ (c .before .checked .given .1))
     (λ c. search needs) returns-3)

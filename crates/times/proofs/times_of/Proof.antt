@@ -56,8 +56,6 @@ returns-4 c =
     (times-given (asked b) (r .responses .ensures) (w .write .ensures))))
 
 pub times-of-spec : {M : Type 1} → statement M
-times-of-spec =
-    tie.close
-    (tie.spec (λ c κs. search needs) (λ c. search needs) returns (λ c. search needs) returns-2
-    (λ c κs. search needs) (λ c. search needs) returns-3 (λ c. search needs) (λ c κs. asked c)
+times-of-spec = tie.close (tie.spec (λ c κs. search needs) (λ c. search needs) returns (λ c. search needs)
+    returns-2 (λ c κs. search needs) (λ c. search needs) returns-3 (λ c. search needs) (λ c κs. asked c)
     (λ c κs. search needs) (λ c. search needs) (λ c. search needs) returns-4)

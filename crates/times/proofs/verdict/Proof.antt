@@ -19,9 +19,8 @@ returns-3 c =
     (λ tb. VerdictRest tb (s .args .plan .now)) (c .verdict-of .ensures)
 
 pub verdict-spec : {M : Type 1} → statement M
-verdict-spec =
-    tie.close
-    (tie.spec (λ c κs. search needs) (λ c. search needs) (λ c. search needs) (λ c. search needs)
+verdict-spec = tie.close (tie.spec (λ c κs. search needs) (λ c. search needs) (λ c. search needs)
+    (λ c. search needs)
     (λ c κs. rows-ask _ (c .before .before .before .check-table .ensures) (c .before .checked2 .given .1))
     verdict-of-requires
     (λ c. shape-refuses _ (c .before .before .check-table .ensures) _ (c .enum-told .given .1))

@@ -54,8 +54,6 @@ returns-4 c =
     (verdict-no (t .before .responses .ensures) (says-no (t .in-time .result) (c .if1 .left) (t .in-time .ensures))))
 
 pub verdict-of-spec : {M : Type 1} → statement M
-verdict-of-spec =
-    tie.close
-    (tie.spec (λ c κs. search needs) (λ c. search needs) returns (λ c. search needs) (λ c κs. search needs)
-    (λ c. search needs) returns-2 (λ c. search needs) (λ c κs. asked c) (λ c κs. search needs) returns-3
-    returns-4)
+verdict-of-spec = tie.close (tie.spec (λ c κs. search needs) (λ c. search needs) returns (λ c. search needs)
+    (λ c κs. search needs) (λ c. search needs) returns-2 (λ c. search needs) (λ c κs. asked c)
+    (λ c κs. search needs) returns-3 returns-4)

@@ -33,7 +33,6 @@ returns c =
     rw e at (c .before .loop .inv .1)
 
 pub write-spec : {M : Type 1} → statement M
-write-spec =
-    tie.close
-    (tie.spec Inv-loop μ-loop loop-holds (λ c. search needs) (λ c. search needs) (λ c. search needs) inside
-    (λ c. search needs) (λ c. search needs) loop-again (λ c. c .before .loop .inv .1 .whole) returns)
+write-spec = tie.close (tie.spec Inv-loop μ-loop loop-holds (λ c. search needs) (λ c. search needs)
+    (λ c. search needs) inside (λ c. search needs) (λ c. search needs) loop-again
+    (λ c. c .before .loop .inv .1 .whole) returns)

@@ -87,11 +87,9 @@ loop-again c =
     (going-more (tb a) (pos a) (a .loop .inv) (inside d) (picked d .0) (picked d .1) (c .less .ensures))
 
 pub fill-spec : {M : Type 1} → statement M
-fill-spec =
-    tie.close
-    (tie.spec Inv-loop μ-loop (λ c. search needs) (λ c κs. search needs) loop-holds (λ c κs. search needs)
-    choose-requires (λ c. search needs) (λ c. search needs) returns (λ c. search needs) (λ c. search needs)
-    (λ c. search needs) (λ c. omega (arith, inside c)) (λ c. search needs) (λ c. search needs)
+fill-spec = tie.close (tie.spec Inv-loop μ-loop (λ c. search needs) (λ c κs. search needs) loop-holds
+    (λ c κs. search needs) choose-requires (λ c. search needs) (λ c. search needs) returns (λ c. search needs)
+    (λ c. search needs) (λ c. search needs) (λ c. omega (arith, inside c)) (λ c. search needs) (λ c. search needs)
     (λ c. omega (arith, inside c)) (λ c. search needs) (λ c. omega (arith, inside c))
     (λ c. omega (arith, picked c .0 .shortest .low)) (λ c. search needs) (λ c κs. search needs)
     (λ c κs. (inside (c .before), picked (c .before) .0 .try)) (λ c. c .less .ensures .smaller) loop-again

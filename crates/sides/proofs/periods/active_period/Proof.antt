@@ -25,9 +25,6 @@ loop-holds c =
     reached-first (active-side-mono _ _ _ _) (w .active) (w .within)
     (active-side-up _ _ _ _ (sound-positive _ (c .pre .0 .sound)) (c .pre .2)) (w .some) (w .lower)
 
-active-side-requires : tie.Need-active-side-requires Inv-loop μ-loop
-active-side-requires c κs = let p = c .before .pre in (p .0, p .1, p .2, let w = c .loop .inv .1 in omega arith)
-
 loop-again : tie.Need-loop-again Inv-loop μ-loop
 loop-again c =
     let a = c .before in
@@ -43,6 +40,6 @@ returns : tie.Need-returns Inv-loop μ-loop
 returns c = climbing-stops (c .before .before .loop .inv .0) (sym (c .if1 .taken) ∙ c .before .active-side .ensures)
 
 pub active-period-spec : {M : Type 1} → statement M
-active-period-spec =
-    tie.close
-    (tie.spec Inv-loop μ-loop loop-holds active-side-requires loop-less loop-again returns)
+active-period-spec = tie.close (tie.spec Inv-loop μ-loop loop-holds
+    (λ c κs. let p = c .before .pre in (p .0, p .1, p .2, let w = c .loop .inv .1 in omega arith)) loop-less
+    loop-again returns)

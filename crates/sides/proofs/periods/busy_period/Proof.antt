@@ -67,8 +67,6 @@ returns-2 c w =
     omega (arith, next b .under (w .period) (busy .low) (busy .holds), w .within, c .if2 .taken)
 
 pub busy-period-spec : {M : Type 1} → statement M
-busy-period-spec =
-    tie.close
-    (tie.spec Inv-loop μ-loop (λ c κs. search needs) loop-holds
+busy-period-spec = tie.close (tie.spec Inv-loop μ-loop (λ c κs. search needs) loop-holds
     (λ c κs. (sound (c .before .before), let h = c .before .loop .inv .1 in omega arith)) loop-less loop-again
     returns returns-2)
