@@ -43,8 +43,7 @@ module _ {tb : Table} {P : ℕ → Bool} {b i q L : ℕ} (w : Working tb P b i q
       record {
         low = omega arith;
         high = g;
-        climbing = from-below 1 (least - q) (omega arith) g
-            (λ t st. omega (arith, first-ends w st));
+        climbing = from-below 1 (least - q) (omega arith) g (λ t st. omega (arith, first-ends w st));
         met = λ j t x y. absurd (omega arith);
         passed = passed-none tb P b i q;
       }

@@ -30,12 +30,6 @@ module _ (tb : Table) (P : ℕ → Bool) (b i : ℕ) (pos : Positive tb) (l : i 
   pub start-first : {q s : ℕ} → q ≤ tb .C i → Start tb P b i q 1 s → active-side tb P b i 1 ≤ s + q
   start-first {q} {s} most st =
       let T = pos .T i l in
-      omega (
-        arith,
-        st .holds,
-        start-side-is tb P b i q 1 s,
-        active-side-is tb P b i 1,
-        load-upto tb pos P s,
-        load-mono tb P 1 (suc s) (omega arith),
-        mul-le-mul-right (tb .C i) (up-le 1 1 T (omega arith)),
-      )
+      let own = mul-le-mul-right (tb .C i) (up-le 1 1 T (omega arith)) in
+      let others = load-mono tb P 1 (suc s) (omega arith) in
+      omega (arith, st .holds, start-side-is tb P b i q 1 s, active-side-is tb P b i 1, load-upto tb pos P s)

@@ -28,12 +28,8 @@ module _ (tb : Table) (set t : ℕ) where
   walked-more {sum} {rest} {j} {r} w n l =
       record {
         total =
-            omega (
-              arith,
-              w .total,
-              load-without tb before (marked rest) j t (w .inside j (n .first .holds)) (n .first .holds),
-              ap (λ P. load before tb P t) (l .marks),
-            );
+            let one = load-without tb before (marked rest) j t (w .inside j (n .first .holds)) (n .first .holds) in
+            omega (arith, w .total, ap (λ P. load before tb P t) (l .marks));
         inside = λ k e. without-elim (marked rest) j k (ap (λ P. P k) (sym (l .marks)) ∙ e) (λ _ m. w .inside k m);
       }
 

@@ -84,13 +84,9 @@ module _ (c : tie.After-start Inv-loop μ-loop) where
 active-period-requires : tie.Need-active-period-requires Inv-loop μ-loop
 active-period-requires c κs =
     let s = c .before .before .before in
-    let p = s .pre in (
-      p .0,
-      p .1,
-      p .2,
-      within-first (tb s) (P s) (s .args .b) (s .args .i) (sound-positive (tb s) (p .0 .sound)) (p .2)
-          (c .active-side .ensures) (p .5 .active) (p .5 .within),
-    )
+    let p = s .pre in
+    let from = within-first (tb s) (P s) (s .args .b) (s .args .i) (sound-positive (tb s) (p .0 .sound)) (p .2) in
+    (p .0, p .1, p .2, from (c .active-side .ensures) (p .5 .active) (p .5 .within))
 
 loop-holds : tie.Need-loop-holds Inv-loop μ-loop
 loop-holds c =

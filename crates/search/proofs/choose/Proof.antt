@@ -314,12 +314,9 @@ module _ (c : Under tie.After-lengths) where
 active-side-requires : Under tie.Need-active-side-requires
 active-side-requires c κs =
     let d = c .before in
-    let s = F d .before in (
-      others (F d) (first d) (d .less .result) (d .less .ensures .marks),
-      blocking-within (s .pre),
-      s .pre .inside (first d) (marked-first d),
-      omega arith,
-    )
+    let s = F d .before in
+    let v = others (F d) (first d) (d .less .result) (d .less .ensures .marks) in
+    (v, blocking-within (s .pre), s .pre .inside (first d) (marked-first d), omega arith)
 
 active-period-requires : Under tie.Need-active-period-requires
 active-period-requires c κs =
@@ -329,13 +326,9 @@ active-period-requires c κs =
     let l = s .pre .inside (first d) (marked-first d) in
     let r = period-exists (s .pre) (first d) (marked-first d) in
     let a : Active (asked (F d)) (rest d) (b s) (first d) (r .0) =
-    rw (level-side d, d .less .ensures .marks) (r .1) in (
-      v,
-      blocking-within (s .pre),
-      l,
-      within-first (asked (F d)) (rest d) (b s) (first d) (sound-positive (asked (F d)) (v .sound)) l
-          (c .before .active-side .ensures) a (r .2),
-    )
+    rw (level-side d, d .less .ensures .marks) (r .1) in
+    let from = within-first (asked (F d)) (rest d) (b s) (first d) (sound-positive (asked (F d)) (v .sound)) l in
+    (v, blocking-within (s .pre), l, from (c .before .active-side .ensures) a (r .2))
 
 rows-holds : Under tie.Need-rows-holds
 rows-holds c = seen-first _ _ _ _
