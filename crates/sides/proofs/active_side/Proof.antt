@@ -15,9 +15,6 @@ module _ (s : tie.Start) where
   abbrev tb : Table
   tb = askingIn (s .args .asks .now) (s .args .n)
 
-  runs : Within (tb .C (s .args .i))
-  runs = s .pre .0 .sound .C (s .args .i) (s .pre .2)
-
   spaced : Within (tb .T (s .args .i))
   spaced = s .pre .0 .sound .T (s .args .i) (s .pre .2)
 
@@ -42,6 +39,7 @@ pub active-side-spec : {M : Type 1} → statement M
 active-side-spec = tie.close (tie.spec (λ c. search needs) (λ c. search needs) (λ c. search needs)
     (λ c. search needs) (λ c. omega (arith, spaced (c .before) .high))
     (λ c κs. let s = c .before in (spaced s .low, omega (arith, spaced s .high, s .pre .3))) (λ c. search needs)
-    (λ c. search needs) (λ c. omega (arith, runs (c .before .before .before) .high))
+    (λ c. search needs)
+    (λ c. let s = c .before .before .before in omega (arith, s .pre .0 .sound .C (s .args .i) (s .pre .2) .high))
     (λ c. omega (arith, part (c .before))) (λ c. omega (arith, part (c .before))) (λ c κs. search needs)
     (λ c. omega (arith, part (c .before .before), others c)) returns)

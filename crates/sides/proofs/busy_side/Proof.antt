@@ -11,10 +11,8 @@ use Rattle.sides.proofs.busy_side.Tie as tie
 
 load-requires : tie.Need-load-requires
 load-requires c κs =
-    let n = c .before .args .n in (
-      record { sound = c .before .pre .0; inside = λ j e. ltb-true j n (sym (c .whole .ensures j) ∙ e) },
-      c .before .pre .1,
-    )
+    let p = c .before .pre in
+    (record { sound = p .0; inside = λ j e. ltb-true j _ (sym (c .whole .ensures j) ∙ e) }, p .1)
 
 returns : tie.Need-returns
 unfolding busy-side

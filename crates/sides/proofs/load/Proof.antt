@@ -30,9 +30,6 @@ module _ (a : tie.After-next Inv-loop μ-loop) where
   inside : j < S .args .n
   inside = a .before .before .loop .inv .inside j (a .next .ensures .first .holds)
 
-  runs : Within (tb .C j)
-  runs = S .pre .0 .sound .C j inside
-
   spaced : Within (tb .T j)
   spaced = S .pre .0 .sound .T j inside
 
@@ -60,8 +57,8 @@ load-spec = tie.close (tie.spec Inv-loop μ-loop (λ c. walked-none _ _ _ (c .pr
     (λ c. search needs) (λ c. search needs) (λ c. search needs) (λ c. search needs) (λ c. search needs)
     (λ c. omega (arith, spaced (c .before) .high))
     (λ c κs. let a = c .before in (spaced a .low, omega (arith, spaced a .high, S a .pre .1))) (λ c. search needs)
-    (λ c. search needs) (λ c. omega (arith, runs (c .before .before .before) .high))
-    (λ c. omega (arith, part (c .before)))
-    (λ c. omega (arith, part (c .before), summed (c .before .before .before)))
+    (λ c. search needs)
+    (λ c. let a = c .before .before .before in omega (arith, S a .pre .0 .sound .C (j a) (inside a) .high))
+    (λ c. omega (arith, part (c .before))) (λ c. omega (arith, part (c .before), summed (c .before .before .before)))
     (λ c κs. let n = c .before .before .before .next .ensures in (n .inside, n .first .holds)) (λ c. search needs)
     loop-again (λ c. walked-all _ _ _ (c .before .loop .inv) (c .loop-test .left)))
