@@ -40,9 +40,7 @@ returns c =
     record { places = l .inv .1; first = λ i h. l .inv .2 i (omega arith); past = λ i h. l .inv .3 i (omega arith) }
 
 pub first-jobs-spec : {M : Type 1} → statement M
-first-jobs-spec =
-    tie.close
-    (tie.spec Inv-loop μ-loop
+first-jobs-spec = tie.close (tie.spec Inv-loop μ-loop
     (λ c. (omega arith, refl, λ j h. absurd (omega arith), holds-none {A = ℕ} 0 (λ _. 0) 32 .past))
     (λ c. search needs) (λ c κs. search needs) (λ c. search needs) (λ c. search needs) (λ c. search needs)
     (λ c. search needs) loop-again returns)

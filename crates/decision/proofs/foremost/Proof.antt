@@ -39,7 +39,6 @@ returns c =
     scan-end (c .before .loop .inv) (omega arith) (λ j h. omega (arith, r .formed .rank-high j h, r .sound .few))
 
 pub foremost-spec : {M : Type 1} → statement M
-foremost-spec =
-    tie.close
-    (tie.spec Inv-loop μ-loop (λ c. scan-none _ _ _ _ _ _) (λ c. search needs) (λ c. search needs) (λ c. search needs)
-    (λ c. search needs) urgency-of-requires (λ c. search needs) (λ c. search needs) loop-again returns)
+foremost-spec = tie.close (tie.spec Inv-loop μ-loop (λ c. scan-none _ _ _ _ _ _) (λ c. search needs)
+    (λ c. search needs) (λ c. search needs) (λ c. search needs) urgency-of-requires (λ c. search needs)
+    (λ c. search needs) loop-again returns)

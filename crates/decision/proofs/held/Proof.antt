@@ -10,7 +10,5 @@ add-result-2 c =
     omega (arith, b .pre .0 .formed .len-high (b .args .i) (b .pre .1), b .pre .0 .sound .C (b .args .i) (b .pre .1))
 
 pub held-spec : {M : Type 1} → statement M
-held-spec =
-    tie.close
-    (tie.spec (λ c. search needs) (λ c. search needs) (λ c. search needs) (λ c. search needs)
+held-spec = tie.close (tie.spec (λ c. search needs) (λ c. search needs) (λ c. search needs) (λ c. search needs)
     (λ c. search needs) (λ c. search needs) (λ c. search needs) add-result-2 (λ c. search needs))

@@ -19,8 +19,6 @@ loop-again c =
     (omega arith, omega arith, λ j a b. by-eq j (l .k) (λ q. rw q (omega arith)) (λ q. l .inv .2 j a (omega arith)))
 
 pub released-spec : {M : Type 1} → statement M
-released-spec =
-    tie.close
-    (tie.spec Inv-loop μ-loop (λ c. search needs) (λ c. search needs) (λ c. search needs) (λ c. search needs)
-    (λ c. search needs) (λ c. search needs) (λ c. search needs) (λ c. search needs) loop-again
+released-spec = tie.close (tie.spec Inv-loop μ-loop (λ c. search needs) (λ c. search needs) (λ c. search needs)
+    (λ c. search needs) (λ c. search needs) (λ c. search needs) (λ c. search needs) (λ c. search needs) loop-again
     (λ c. search needs))

@@ -33,8 +33,6 @@ returns-4 c =
     }
 
 pub stretch-spec : {M : Type 1} → statement M
-stretch-spec =
-    tie.close
-    (tie.spec returns returns-2 (λ c. search needs) (λ c. search needs) (λ c. search needs)
-    (λ c. search needs)
-    (λ c. omega (arith, c .before .before .before .pre .1 (c .before .if2 .left))) returns-3 returns-4)
+stretch-spec = tie.close (tie.spec returns returns-2 (λ c. search needs) (λ c. search needs) (λ c. search needs)
+    (λ c. search needs) (λ c. omega (arith, c .before .before .before .pre .1 (c .before .if2 .left))) returns-3
+    returns-4)

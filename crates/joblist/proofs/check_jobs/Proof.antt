@@ -87,9 +87,7 @@ loop-again c =
     (omega arith, rw (c .after .ensures) (walked-on w (r .0) (d .before .if4 .left) (d .if5 .left) (r .1)))
 
 pub check-jobs-spec : {M : Type 1} → statement M
-check-jobs-spec =
-    tie.close
-    (tie.spec Inv-loop μ-loop (λ c. (refl, λ s. c .if1 .taken (omega (arith, s .1))))
+check-jobs-spec = tie.close (tie.spec Inv-loop μ-loop (λ c. (refl, λ s. c .if1 .taken (omega (arith, s .1))))
     (λ c. (refl, λ s. omega (arith, s .1, s .2))) (λ c. (omega arith, walked-none _ _))
     (λ c κs. (s (c .before) .pre, c .loop-test .taken)) (λ c. search needs) returns-3 (λ c. search needs)
     (λ c. search needs) (λ c. search needs)

@@ -7,7 +7,5 @@ use Rattle.marks.proofs.whole.Statement.{statement}
 use Rattle.marks.proofs.whole.Tie as tie
 
 pub whole-spec : {M : Type 1} → statement M
-whole-spec =
-    tie.close
-    (tie.spec (λ c. search needs) (λ c. search needs)
+whole-spec = tie.close (tie.spec (λ c. search needs) (λ c. search needs)
     (λ c. subst (Whole (c .args .n)) (sym (shifted (c .args .n) (c .pre .1))) (whole-by-power (c .args .n))))

@@ -141,18 +141,18 @@ loop-again c =
     (d .0, next-on (tb b) (js b) (s b .pre .1) _ _ _ _ (d .1 .later) n (c .released2 .ensures))
 
 pub finish-all-spec : {M : Type 1} → statement M
-finish-all-spec =
-    tie.close
-    (tie.spec Inv-loop μ-loop (λ c κs. c .before .before .before .before .pre .0 .sound .few) (λ c κs. search needs)
-    loop-holds foremost-requires (λ c. h (c .before .before) .loop .inv .0 .whole) returns
-    (λ c. omega (arith, c .if2 .left)) (λ c. omega (arith, c .if2 .left)) (λ c. omega (arith, c .if2 .left))
+finish-all-spec = tie.close (tie.spec Inv-loop μ-loop
+    (λ c κs. c .before .before .before .before .pre .0 .sound .few) (λ c κs. search needs) loop-holds
+    foremost-requires (λ c. h (c .before .before) .loop .inv .0 .whole) returns (λ c. omega (arith, c .if2 .left))
+    (λ c. omega (arith, c .if2 .left)) (λ c. omega (arith, c .if2 .left))
     (λ c. omega (arith, c .before .if2 .left)) (λ c. omega (arith, runs c)) (λ c. omega (arith, runs c))
     (λ c. omega (arith, runs c)) (λ c. omega (arith, runs c)) (λ c. omega (arith, runs c))
     (λ c. omega (arith, runs c)) (λ c. omega (arith, runs c)) (λ c. omega (arith, runs (c .before))) held-requires
     (λ c. omega (arith, runs (c .before .before))) stretch-requires (λ c. omega (arith, ran c))
     (λ c. omega (arith, ran c)) (λ c. omega (arith, ran (c .before))) (λ c. omega (arith, ran (c .before)))
-    (λ c. omega (arith, ran (c .before))) (λ c. omega (arith, ran (c .before))) (λ c. omega (arith, ran (c .before)))
-    (λ c. omega (arith, ran (c .before))) (λ c. omega (arith, ran (c .before))) (λ c κs. omega (arith, ran (c .before)))
+    (λ c. omega (arith, ran (c .before))) (λ c. omega (arith, ran (c .before)))
+    (λ c. omega (arith, ran (c .before))) (λ c. omega (arith, ran (c .before)))
+    (λ c. omega (arith, ran (c .before))) (λ c κs. omega (arith, ran (c .before)))
     (λ c. omega (arith, ran (c .before .before))) (λ c. omega (arith, ran (c .before .before)))
     (λ c. omega (arith, ran (c .before .before))) (λ c. omega (arith, ran (c .before .before)))
     (λ c κs. h (c .before) .loop .inv .1 .high) loop-less loop-again)

@@ -50,7 +50,5 @@ returns-3 c =
     inr (k .0, inr (k .1, d .play-sound .ensures))
 
 pub play-spec : {M : Type 1} → statement M
-play-spec =
-    tie.close
-    (tie.spec (λ c κs. search needs) (λ c. search needs) (λ c. search needs) (λ c. search needs)
+play-spec = tie.close (tie.spec (λ c κs. search needs) (λ c. search needs) (λ c. search needs) (λ c. search needs)
     play-sound-requires returns returns-2 (λ c. search needs) returns-3)

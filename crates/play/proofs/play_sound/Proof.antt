@@ -111,8 +111,6 @@ returns-5 c =
     inr (form (f k), inr (l .1, inr (l .2, inr (λ _ h. omega (arith, h .1), search needs))))
 
 pub play-sound-spec : {M : Type 1} → statement M
-play-sound-spec =
-    tie.close
-    (tie.spec (λ c κs. search needs) (λ c κs. search needs) (λ c. search needs) returns (λ c. search needs)
-    check-jobs-requires (λ c. search needs) (λ c. search needs) (λ c. search needs) (λ c. search needs)
-    returns-2 finish-all-requires returns-3 returns-4 (λ c. search needs) returns-5)
+play-sound-spec = tie.close (tie.spec (λ c κs. search needs) (λ c κs. search needs) (λ c. search needs) returns
+    (λ c. search needs) check-jobs-requires (λ c. search needs) (λ c. search needs) (λ c. search needs)
+    (λ c. search needs) returns-2 finish-all-requires returns-3 returns-4 (λ c. search needs) returns-5)

@@ -52,7 +52,5 @@ returns-2 c =
     )
 
 pub reply-spec : {M : Type 1} → statement M
-reply-spec =
-    tie.close
-    (tie.spec (λ c. search needs) (λ c κs. search needs) (λ c κs. search needs) returns within
+reply-spec = tie.close (tie.spec (λ c. search needs) (λ c κs. search needs) (λ c κs. search needs) returns within
     slice-aggregate-reply-table (λ c κs. search needs) returns-2)

@@ -59,7 +59,5 @@ returns-2 c =
     )
 
 pub reply-table-spec : {M : Type 1} → statement M
-reply-table-spec =
-    tie.close
-    (tie.spec (λ c. search needs) (λ c κs. search needs) (λ c κs. search needs) returns (λ c. rows c .0)
-    slice-aggregate-print-planned print-planned-requires returns-2)
+reply-table-spec = tie.close (tie.spec (λ c. search needs) (λ c κs. search needs) (λ c κs. search needs) returns
+    (λ c. rows c .0) slice-aggregate-print-planned print-planned-requires returns-2)

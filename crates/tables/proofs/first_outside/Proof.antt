@@ -33,7 +33,5 @@ returns-3 : tie.Need-returns-3 Inv-loop μ-loop
 returns-3 c = record { inside = omega arith; within = c .before .loop .inv .1; outside = λ l. absurd (omega arith) }
 
 pub first-outside-spec : {M : Type 1} → statement M
-first-outside-spec =
-    tie.close
-    (tie.spec Inv-loop μ-loop (λ c. (search needs, below-none _)) (λ c. search needs) (λ c. search needs) returns
-    returns-2 (λ c. search needs) (λ c. search needs) loop-again returns-3)
+first-outside-spec = tie.close (tie.spec Inv-loop μ-loop (λ c. (search needs, below-none _)) (λ c. search needs)
+    (λ c. search needs) returns returns-2 (λ c. search needs) (λ c. search needs) loop-again returns-3)

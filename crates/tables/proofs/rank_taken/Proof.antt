@@ -20,9 +20,7 @@ loop-again c =
     (search needs, search needs, search needs, below-more _ _ (c .before .before .before .loop .inv .3) (c .if1 .left))
 
 pub rank-taken-spec : {M : Type 1} → statement M
-rank-taken-spec =
-    tie.close
-    (tie.spec Inv-loop μ-loop (λ c. search needs) (λ c. search needs) (λ c. search needs)
+rank-taken-spec = tie.close (tie.spec Inv-loop μ-loop (λ c. search needs) (λ c. search needs) (λ c. search needs)
     (λ c. (search needs, search needs, search needs, below-none _)) (λ c. search needs) (λ c. search needs)
     (λ c. search needs) (λ c. (c .before .before .before .loop .j, omega arith, omega arith)) (λ c. search needs)
     (λ c. search needs) loop-again (λ c t. c .before .loop .inv .3 (t .0) (omega (arith, t .1)) (t .2)))

@@ -17,11 +17,9 @@ returns-5 c =
     (c .rank-taken .ensures)
 
 pub row-at-fault-spec : {M : Type 1} → statement M
-row-at-fault-spec =
-    tie.close
-    (tie.spec (λ c. search needs) (λ c. search needs) (λ c. search needs) (λ c. search needs)
-    (λ c. search needs) (λ c. omega (arith, c .shared-slice-known2 .given (2 * c .before .before .before .args .i)))
-    (λ c. inl (inl (λ r. omega (arith, r .0)))) (λ c. inl (inl (λ r. omega (arith, r .1))))
-    (λ c. search needs) (λ c. search needs) (λ c. search needs)
-    (λ c. inr (λ r. omega (arith, r .0))) (λ c. inr (λ r. omega (arith, r .1)))
-    (λ c κs. search needs) returns-5)
+row-at-fault-spec = tie.close (tie.spec (λ c. search needs) (λ c. search needs) (λ c. search needs)
+    (λ c. search needs) (λ c. search needs)
+    (λ c. omega (arith, c .shared-slice-known2 .given (2 * c .before .before .before .args .i)))
+    (λ c. inl (inl (λ r. omega (arith, r .0)))) (λ c. inl (inl (λ r. omega (arith, r .1)))) (λ c. search needs)
+    (λ c. search needs) (λ c. search needs) (λ c. inr (λ r. omega (arith, r .0)))
+    (λ c. inr (λ r. omega (arith, r .1))) (λ c κs. search needs) returns-5)

@@ -25,9 +25,7 @@ returns c =
     table-rows _ (c .before .before .args .xs .now) _ (c .before .before .pre .1) (rw e at (c .before .loop .inv .2))
 
 pub rows-of-spec : {M : Type 1} → statement M
-rows-of-spec =
-    tie.close
-    (tie.spec Inv-loop μ-loop (λ c. (search needs, refl, holds-none no _ 32)) (λ c. search needs) (λ c. search needs)
+rows-of-spec = tie.close (tie.spec Inv-loop μ-loop (λ c. (search needs, refl, holds-none no _ 32))
     (λ c. search needs) (λ c. search needs) (λ c. search needs) (λ c. search needs) (λ c. search needs)
     (λ c. search needs) (λ c. search needs) (λ c. search needs) (λ c. search needs) (λ c. search needs)
-    (λ c. search needs) loop-again returns)
+    (λ c. search needs) (λ c. search needs) (λ c. search needs) loop-again returns)
