@@ -89,7 +89,9 @@ pub fn run() {
         Input::Whole(n) => {
             let mut page = io::buffer();
             let written = reply(&text[..n], &mut page);
-            io::write_all(1, written);
+            if !io::write_all(1, written) {
+                io::write_all(2, b"planner: standard output cannot be written\n");
+            }
         }
     }
 }
