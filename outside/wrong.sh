@@ -91,11 +91,11 @@ wrong 'written behind the front' surface/operations.rs \
     'out.iter_mut().zip(&plan[..rows.n])' \
     'out.iter_mut().zip(&plan)'
 wrong 'the table written' surface/operations.rs \
-    'verdict(from_raw_parts(table' \
-    '*table.cast_mut() = 1; verdict(from_raw_parts(table'
+    'verdict(lent(table' \
+    '*table.cast_mut() = 1; verdict(lent(table'
 wrong 'a read behind a slice' surface/operations.rs \
-    'fit(from_raw_parts(planned, planned_len), buf_len)' \
-    'fit(from_raw_parts(planned, planned_len), buf_len.min(planned.add(planned_len).read_volatile() as usize))'
+    'fit(lent(planned, planned_len), buf_len)' \
+    'fit(lent(planned, planned_len), buf_len.min(planned.add(planned_len).read_volatile() as usize))'
 wrong 'verdict with less in place of at most' surface/operations.rs '<= row.d' '< row.d'
 wrong 'a job in its region preempted' by_hand/play.rs 'running.filter(' 'running.filter(|_| false).filter('
 wrong 'a region one tick too long' by_hand/play.rs 'executed > rows' 'executed >= rows'
@@ -129,6 +129,22 @@ wrong 'fit one byte short' surface/operations.rs \
     'checks::room(room, length)' \
     'checks::room(room.saturating_add(1), length)'
 wrong 'print that writes on a refusal' surface/operations.rs 'let length = fit' 'buffer.fill(0); let length = fit'
+wrong 'a tick of 1,001 let through' surface/sheet.rs 'cursor.number(1_000)' 'cursor.number(1_001)'
+wrong 'fit cuts its length to 32 bits' surface/operations.rs \
+    'fit(lent(planned, planned_len), buf_len)' \
+    'fit(lent(planned, planned_len), buf_len as u32 as usize)'
+wrong 'sums that wrap at 2^32' by_hand/response.rs \
+    '(t + r.t - 1) / r.t * r.c)' \
+    '(t + r.t - 1) / r.t * r.c) & 0xffff_ffff'
+wrong 'row 31 not tried at rank 32' by_hand/search.rs \
+    'let mut to_try = unplaced;' \
+    'let mut to_try = if unplaced == u32::MAX { unplaced >> 1 } else { unplaced };'
+wrong 'jobs past 100,000 not judged' by_hand/response.rs \
+    'release >= self.active' \
+    'release >= self.active.min(100_000 * t)'
+wrong 'more stack than the header says' by_hand/search.rs \
+    'let mut unplaced = all(rows);' \
+    'let mut unplaced = all(rows); core::hint::black_box([0u64; 512]);'
 
 echo "wrong.sh: $tried wrong versions, $missed missed"
 [ "$missed" -eq 0 ]

@@ -1,5 +1,5 @@
-//! Fixed cases at the limits: the horizon, 32 rows, 4,096 jobs, the last release, places at both
-//! ends, empty slices.
+//! Fixed cases at the limits: the horizon, 32 rows, 4,096 jobs, the last release, 2^32, places at
+//! both ends, empty slices.
 
 use crate::judge::Judge;
 
@@ -29,6 +29,14 @@ fn busy_period_at_the_horizon(judge: &mut Judge) {
     }
 }
 
+/// The work asked for up to a tick is 2^32 exactly.
+fn work_of_32_bits(judge: &mut Judge) {
+    let table = [65_536, 65_536, 1];
+    judge.plan(&table, 3);
+    judge.times(&table, &[1, 1], 1);
+    judge.verdict(&table, &[1, 1]);
+}
+
 /// The sum of the work passes 2^64 after a few steps.
 fn heaviest_tables(judge: &mut Judge) {
     for rows in [1, 2, 32] {
@@ -55,6 +63,24 @@ fn counts_of_rows(judge: &mut Judge) {
             judge.times(&table, &plan, (numbers / 3).saturating_sub(1));
         }
     }
+}
+
+/// The last of 32 rows alone can take rank 32.
+fn last_row_at_the_last_rank(judge: &mut Judge) {
+    let table = [[1, 31, 100].repeat(31), vec![1, 32, 100]].concat();
+    if judge.plan(&table, 96).is_none() {
+        judge.fault(|| format!("{table:?} has a plan"));
+    }
+}
+
+/// Row 2 takes longest by its job 121,667.
+fn late_job_takes_longest(judge: &mut Judge) {
+    let table = [115_263, M, 243_333, 1, M, 38, 2, M, 4];
+    let plan = [1, 1, 2, 1, 3, 1];
+    if judge.times(&table, &plan, 3).is_none_or(|times| times[2] != 118_382) {
+        judge.fault(|| format!("the last response of {table:?} under {plan:?} is not 118382"));
+    }
+    judge.verdict(&table, &plan);
 }
 
 /// Each number of a table, of a plan and of a job list put just outside its range, alone and before
@@ -108,6 +134,19 @@ fn job_lists(judge: &mut Judge) {
     judge.play(&[1, 1, M, 1, 1, 1], &[1, 1, 2, 1], &[0, 0, 1, 1, 0, 1, 0, M, 1], 3);
 }
 
+/// Each number of a sheet at its limit and one beyond.
+fn largest_numbers_of_a_sheet(judge: &mut Judge) {
+    for tick in ["1000", "1001", "9999", "10000"] {
+        judge.sheet(format!("tick {tick}\ntask 1 2 3\n").as_bytes(), 3);
+    }
+    let most = "1000000000";
+    for beyond in ["1000000000", "1000000001", "9999999999", "10000000000"] {
+        for [c, d, t] in [[beyond, most, most], [most, beyond, most], [most, most, beyond]] {
+            judge.sheet(format!("tick 1000\ntask {c} {d} {t}\n").as_bytes(), 3);
+        }
+    }
+}
+
 fn long_texts(judge: &mut Judge) {
     let line = b"task 1000000000 1000000000 1000000000\n";
     for lines in [31, 32, 33, 2_000] {
@@ -133,12 +172,24 @@ fn longest_texts(judge: &mut Judge) {
     judge.print(&page, 1_949);
 }
 
+/// Buffers of more than 2^32 bytes, of which fit is only told.
+fn vast_buffers(judge: &mut Judge) {
+    for room in [u64::from(u32::MAX), 1 << 32, (1 << 32) + 1, 1 << 63] {
+        judge.fit(&[1, 1, 1], room);
+    }
+}
+
 pub fn all(judge: &mut Judge) {
     busy_period_at_the_horizon(judge);
+    work_of_32_bits(judge);
     heaviest_tables(judge);
     counts_of_rows(judge);
+    last_row_at_the_last_rank(judge);
+    late_job_takes_longest(judge);
     places(judge);
     job_lists(judge);
+    largest_numbers_of_a_sheet(judge);
     long_texts(judge);
+    vast_buffers(judge);
     longest_texts(judge);
 }

@@ -1,5 +1,6 @@
 //! Holds the library's answers against the second planner's, and each lent slice against a copy.
 
+use crate::causes;
 use crate::counts::Counts;
 use common::bridge::{bytes, numbers, Bridge, Call, Operation, Reply};
 use common::random::Random;
@@ -68,6 +69,23 @@ impl Judge {
         expected.ok()
     }
 
+    /// Counts the cause of a refusal that has several, where it is the only one at its place.
+    fn count_cause<T>(
+        &mut self,
+        operation: Operation,
+        expected: &Answer<T>,
+        number: u32,
+        causes: impl Fn(usize) -> Vec<&'static str>,
+    ) {
+        if let Err(refusal) = expected {
+            if refusal.number == number {
+                if let [cause] = causes(refusal.place as usize)[..] {
+                    self.counts.add(cause_of(operation, number, cause));
+                }
+            }
+        }
+    }
+
     pub fn plan(&mut self, table: &[u32], room: usize) -> Option<Vec<u32>> {
         let slices = vec![bytes(table), self.output(4 * room)];
         let expected = second::plan(table, room).map(|out| (out.len() as u64, bytes(&out)));
@@ -77,12 +95,14 @@ impl Judge {
     pub fn times(&mut self, table: &[u32], plan: &[u32], room: usize) -> Option<Vec<u32>> {
         let slices = vec![bytes(table), bytes(plan), self.output(4 * room)];
         let expected = second::times(table, plan, room).map(|out| (out.len() as u64, bytes(&out)));
+        self.count_cause(Operation::Times, &expected, 6, |row| causes::of_plan(table, plan, row));
         Some(numbers(&self.hold(Call { operation: Operation::Times, slices, number: 0 }, true, expected)?.1))
     }
 
     pub fn verdict(&mut self, table: &[u32], plan: &[u32]) -> Option<bool> {
         let slices = vec![bytes(table), bytes(plan)];
         let expected = second::verdict(table, plan).map(|yes| (u64::from(yes), vec![]));
+        self.count_cause(Operation::Verdict, &expected, 6, |row| causes::of_plan(table, plan, row));
         let yes = self.hold(Call { operation: Operation::Verdict, slices, number: 0 }, false, expected)?.0 == 1;
         self.counts.add(if yes { "Verdict yes" } else { "Verdict no" });
         Some(yes)
@@ -90,6 +110,8 @@ impl Judge {
 
     pub fn play(&mut self, table: &[u32], plan: &[u32], jobs: &[u32], room: usize) -> Option<Vec<u32>> {
         let expected = second::play(table, plan, jobs, room);
+        self.count_cause(Operation::Play, &expected, 6, |row| causes::of_plan(table, plan, row));
+        self.count_cause(Operation::Play, &expected, 8, |job| causes::of_job(table, jobs, job));
         self.play_expecting(table, plan, jobs, room, expected)
     }
 
@@ -109,6 +131,7 @@ impl Judge {
     pub fn sheet(&mut self, text: &[u8], room: usize) -> Option<Vec<u32>> {
         let slices = vec![text.to_vec(), self.output(4 * room)];
         let expected = second::sheet(text, room).map(|out| (out.len() as u64, bytes(&out)));
+        self.count_cause(Operation::Sheet, &expected, 9, |place| vec![causes::of_sheet(text, place)]);
         Some(numbers(&self.hold(Call { operation: Operation::Sheet, slices, number: 0 }, true, expected)?.1))
     }
 
@@ -153,6 +176,11 @@ impl Judge {
         let slices = vec![bytes(table), bytes(plan), bytes(jobs), self.output(4 * jobs.len() / 3)];
         self.alone(Call { operation: Operation::Play, slices, number: 0 })
     }
+}
+
+/// The kind of case that a refusal with this cause is.
+pub fn cause_of(operation: Operation, number: u32, cause: &str) -> String {
+    format!("{operation:?} refused {number}: {cause}")
 }
 
 /// Slices as numbers, or as text where they are text, cut where they are long.

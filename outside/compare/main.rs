@@ -3,6 +3,7 @@
 
 mod afford;
 mod cases;
+mod causes;
 mod complete;
 mod counts;
 mod damage;
@@ -18,7 +19,7 @@ mod traits;
 use common::bridge::{Bridge, Operation};
 use common::random::Random;
 use counts::Counts;
-use judge::Judge;
+use judge::{cause_of, Judge};
 
 /// The refusals that each operation can give.
 const REFUSALS: [(Operation, &[u32]); 7] = [
@@ -29,6 +30,15 @@ const REFUSALS: [(Operation, &[u32]); 7] = [
     (Operation::Sheet, &[9, 3, 2]),
     (Operation::Print, &[1, 2]),
     (Operation::Fit, &[1, 2]),
+];
+
+/// The refusals that have several causes.
+const CAUSES: [(Operation, u32, &[&str]); 5] = [
+    (Operation::Times, 6, &causes::OF_PLANS),
+    (Operation::Verdict, 6, &causes::OF_PLANS),
+    (Operation::Play, 6, &causes::OF_PLANS),
+    (Operation::Play, 8, &causes::OF_JOBS),
+    (Operation::Sheet, 9, &causes::OF_SHEETS),
 ];
 
 const NOTABLE: [&str; 22] = [
@@ -61,7 +71,10 @@ fn asked_for() -> impl Iterator<Item = String> {
         let refused = numbers.iter().map(move |number| format!("{operation:?} refused {number}"));
         refused.chain([format!("{operation:?} given")])
     });
-    refusals.chain(NOTABLE.into_iter().map(String::from))
+    let causes = CAUSES
+        .into_iter()
+        .flat_map(|(operation, number, causes)| causes.iter().map(move |cause| cause_of(operation, number, cause)));
+    refusals.chain(causes).chain(NOTABLE.into_iter().map(String::from))
 }
 
 fn main() -> std::io::Result<()> {

@@ -6,6 +6,23 @@ use super::answer::{Answer, Refusal};
 use super::{checks, page, sheet};
 use crate::{play, response, search};
 
+/// What C lends; an empty slice may have no address.
+unsafe fn lent<'a, T>(start: *const T, length: usize) -> &'a [T] {
+    if length == 0 {
+        &[]
+    } else {
+        from_raw_parts(start, length)
+    }
+}
+
+unsafe fn lent_to_write<'a, T>(start: *mut T, length: usize) -> &'a mut [T] {
+    if length == 0 {
+        &mut []
+    } else {
+        from_raw_parts_mut(start, length)
+    }
+}
+
 fn plan(table: &[u32], out: &mut [u32]) -> Result<u64, Refusal> {
     let rows = checks::table(table)?;
     checks::room(out.len(), table.len())?;
@@ -65,7 +82,7 @@ fn print(planned: &[u32], buffer: &mut [u8]) -> Result<u64, Refusal> {
 
 #[no_mangle]
 unsafe extern "C" fn tb_plan(table: *const u32, table_len: usize, out: *mut u32, out_len: usize) -> Answer {
-    plan(from_raw_parts(table, table_len), from_raw_parts_mut(out, out_len)).into()
+    plan(lent(table, table_len), lent_to_write(out, out_len)).into()
 }
 
 #[no_mangle]
@@ -77,12 +94,12 @@ unsafe extern "C" fn tb_times(
     out: *mut u32,
     out_len: usize,
 ) -> Answer {
-    times(from_raw_parts(table, table_len), from_raw_parts(plan, plan_len), from_raw_parts_mut(out, out_len)).into()
+    times(lent(table, table_len), lent(plan, plan_len), lent_to_write(out, out_len)).into()
 }
 
 #[no_mangle]
 unsafe extern "C" fn tb_verdict(table: *const u32, table_len: usize, plan: *const u32, plan_len: usize) -> Answer {
-    verdict(from_raw_parts(table, table_len), from_raw_parts(plan, plan_len)).into()
+    verdict(lent(table, table_len), lent(plan, plan_len)).into()
 }
 
 #[no_mangle]
@@ -96,21 +113,21 @@ unsafe extern "C" fn tb_play(
     out: *mut u32,
     out_len: usize,
 ) -> Answer {
-    let (table, plan) = (from_raw_parts(table, table_len), from_raw_parts(plan, plan_len));
-    play(table, plan, from_raw_parts(jobs, jobs_len), from_raw_parts_mut(out, out_len)).into()
+    let (table, plan) = (lent(table, table_len), lent(plan, plan_len));
+    play(table, plan, lent(jobs, jobs_len), lent_to_write(out, out_len)).into()
 }
 
 #[no_mangle]
 unsafe extern "C" fn tb_sheet(text: *const u8, text_len: usize, out: *mut u32, out_len: usize) -> Answer {
-    sheet(from_raw_parts(text, text_len), from_raw_parts_mut(out, out_len)).into()
+    sheet(lent(text, text_len), lent_to_write(out, out_len)).into()
 }
 
 #[no_mangle]
 unsafe extern "C" fn tb_print(planned: *const u32, planned_len: usize, buf: *mut u8, buf_len: usize) -> Answer {
-    print(from_raw_parts(planned, planned_len), from_raw_parts_mut(buf, buf_len)).into()
+    print(lent(planned, planned_len), lent_to_write(buf, buf_len)).into()
 }
 
 #[no_mangle]
 unsafe extern "C" fn tb_fit(planned: *const u32, planned_len: usize, buf_len: usize) -> Answer {
-    fit(from_raw_parts(planned, planned_len), buf_len).into()
+    fit(lent(planned, planned_len), buf_len).into()
 }
