@@ -7,9 +7,9 @@ enum { ROWS = 2, JOBS = 2 };
 
 static int refused(const char *operation, tb_answer answer)
 {
-    if (answer.number != 0)
+    if (answer.number != TB_GIVEN)
         printf("%s refused %u %u\n", operation, (unsigned)answer.number, (unsigned)answer.place);
-    return answer.number != 0;
+    return answer.number != TB_GIVEN;
 }
 
 int main(void)
@@ -20,7 +20,7 @@ int main(void)
     if (refused("plan", tb_plan(table, 3 * ROWS, planned, 3 * ROWS)))
         return 1;
 
-    uint8_t text[256];
+    uint8_t text[TB_MOST_PRINTED_BYTES];
     tb_answer printed = tb_print(planned, 3 * ROWS, text, sizeof text);
     if (refused("print", printed))
         return 1;

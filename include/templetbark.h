@@ -1,7 +1,16 @@
 /* The C surface of Templetbark, the task planner of the set-top box reference design.
  *
- * Link target/staticlib/libtempletbark.a (x86-64). The library keeps no state, allocates nothing,
- * calls nothing outside itself, and may be called from several threads at once.
+ * Link target/staticlib/libtempletbark.a, which is x86-64 code for the System V calling convention and
+ * for no other processor or convention:
+ *
+ *     cc -std=c99 -Iinclude program.c target/staticlib/libtempletbark.a -o program
+ *
+ * The library keeps no state, allocates nothing, and may be called from several threads at once. It
+ * calls two functions of the C library, memcpy and memset, and nothing else outside itself. Every call
+ * ends. 4,096 bytes of stack are enough for each, what memcpy and memset take in glibc included;
+ * tb_plan takes the most, 2,336 bytes of its own, the red zone among them. No bound on a call's time is
+ * proved. The longest that a search for slow tables found is 0.04 seconds of processor time, of tb_plan
+ * on a server's Xeon for a table of 32 rows; there may be slower ones.
  *
  * A call lends slices: a pointer and a length. Every length counts elements, 32-bit numbers or bytes.
  * An operation reads and writes within the lent slices only, and never writes one that is const here.
@@ -34,31 +43,32 @@
  * An operation makes the checks named beside it, in that order, and answers with the first that hits.
  * A call that is refused leaves every slice as it was.
  *
- *   9  The text is no sheet.
+ *   9  TB_NOT_A_SHEET. The text is no sheet.
  *      Place: how many of its first bytes are also the first bytes of some sheet.
- *   1  The numbers make no whole rows of three, no row at all, or more than 32.
+ *   1  TB_NOT_ROWS. The numbers make no whole rows of three, no row at all, or more than 32.
  *      Place: 0.
- *   3  A number of the table is 0 or above 1,000,000.
+ *   3  TB_OUT_OF_RANGE. A number of the table is 0 or above 1,000,000.
  *      Place: its index, the least if there are several.
- *   6  The plan is not one for this table.
- *      Place: 32 if it has more or fewer than 2n numbers. Otherwise the first row whose rank is not
- *      from 1 to n or is that of a row before it, or whose length is not from 1 to C.
- *   7  The numbers make no whole jobs of three, or more than 4,096.
+ *   6  TB_NOT_A_PLAN. The plan is not one for this table.
+ *      Place: TB_WRONG_SIZE, 32, if it has more or fewer than 2n numbers. Otherwise the first row whose
+ *      rank is not from 1 to n or is that of a row before it, or whose length is not from 1 to C.
+ *   7  TB_NOT_JOBS. The numbers make no whole jobs of three, or more than 4,096.
  *      Place: 0.
- *   8  A job is not what is asked of one above, by its own numbers or beside a job ahead of it.
+ *   8  TB_BAD_JOB. A job is not what is asked of one above, by its own numbers or beside a job ahead
+ *      of it.
  *      Place: the index of the first such job; where two jobs clash it is the later one.
- *   2  The answer does not fit into the output.
+ *   2  TB_NO_ROOM. The answer does not fit into the output.
  *      Place: 0.
- *   4  The table has no busy period, or one of more than 1,000,000 ticks.
+ *   4  TB_NO_BUSY_PERIOD. The table has no busy period, or one of more than 1,000,000 ticks.
  *      Place: 0.
- *   5  No ranks with any lengths keep all deadlines.
+ *   5  TB_NO_PLAN. No ranks with any lengths keep all deadlines.
  *      Place: 0.
  *
  *
  * What C cannot check, and the caller answers for
  *
  *   - Each pointer is valid for its whole length: readable, and writable where it is not const. It is
- *     aligned for its element. With length 0 it is never followed, but must not be null.
+ *     aligned for its element. With length 0 it is never followed and may be null.
  *   - A slice that is written overlaps no other slice of the same call.
  *   - Nothing else writes a lent slice, or reads one that is written, until the call returns.
  */
@@ -72,11 +82,41 @@
 extern "C" {
 #endif
 
+/* The version of this surface; it rises with every change that a caller can see. */
+#define TB_SURFACE 1
+
+/* What an answer's number says. */
+enum {
+    TB_GIVEN = 0,
+    TB_NOT_ROWS = 1,
+    TB_NO_ROOM = 2,
+    TB_OUT_OF_RANGE = 3,
+    TB_NO_BUSY_PERIOD = 4,
+    TB_NO_PLAN = 5,
+    TB_NOT_A_PLAN = 6,
+    TB_NOT_JOBS = 7,
+    TB_BAD_JOB = 8,
+    TB_NOT_A_SHEET = 9
+};
+
+/* The place of TB_NOT_A_PLAN for a plan of the wrong size. */
+#define TB_WRONG_SIZE 32
+
+/* The limits. An output of the size named here has room for every answer. */
+#define TB_MOST_ROWS 32
+#define TB_MOST_NUMBER 1000000     /* of a table, of a release, and of ticks in a busy period */
+#define TB_MOST_TABLE_NUMBERS 96   /* of a table and of a planned table, three a row */
+#define TB_MOST_PLAN_NUMBERS 64    /* two a row */
+#define TB_MOST_JOBS 4096
+#define TB_MOST_JOB_NUMBERS 12288  /* three a job */
+#define TB_MOST_SHEET_BYTES 1226
+#define TB_MOST_PRINTED_BYTES 1950
+
 /* An answer, given or refused. */
 typedef struct {
-    uint32_t number; /* 0: given. Otherwise the number of the refusal. */
+    uint32_t number; /* TB_GIVEN, or the number of the refusal. */
     uint32_t place;  /* The refusal's place. 0 where the answer is given. */
-    uint64_t value;  /* The elements written, unless the operation says otherwise. 0 on a refusal. */
+    uint64_t value;  /* Said of each operation. 0 on a refusal. */
 } tb_answer;
 
 /* Chooses ranks and lengths for a table, and works out the responses.

@@ -10,7 +10,8 @@ OUTSIDE := target/outside
 KIT_HERE = $(patsubst %/docs/START-HERE.md,%,$(shell rt doc))/on/$(shell uname -m)
 KIT_TOOLS = $(KIT_HERE)/toolchain
 
-RUST := rustc -O --edition 2021 -D warnings
+# Warnings are shown and refuse nothing: a later rustc has others.
+RUST := rustc -O --edition 2021
 X86_CLANG = $(KIT_TOOLS)/bin/clang
 X86_CC = $(X86_CLANG) --target=x86_64-unknown-linux-gnu -O2 -fPIC -std=c99 -Wall -Wextra -Wpedantic -Werror \
 	-nostdinc -isystem $(shell cc -print-file-name=include) -Iinclude
@@ -21,7 +22,7 @@ X86_RUN = $(wildcard $(KIT_TOOLS)/bin/qemu-x86_64) $(KIT_TOOLS)/lib/ld-linux-x86
 .PHONY: outside-test outside-wrong bench archive-is-there tools-are-there
 
 tools-are-there:
-	@for tool in rt rustc cc; do \
+	@for tool in rt rustc cc nm; do \
 		command -v $$tool >/dev/null || { echo "outside: $$tool is not installed" >&2; exit 1; }; \
 	done
 
@@ -70,18 +71,21 @@ $(OUTSIDE)/plan_and_play: archive-is-there examples/plan_and_play.c include/temp
 		-ffreestanding -x c++ -std=c++11 -Wall -Wextra -Wpedantic -Werror -fsyntax-only include/templetbark.h
 	$(X86_LINK) $@ $@.o $(ARCHIVE)
 
-# The library against the second planner, and the example against its expected output.
-outside-test: $(OUTSIDE)/plan_and_play $(OUTSIDE)/compare $(OUTSIDE)/bridge-product
+# The archive's symbols against the header, the library against the second planner, the example
+# against its expected output, and as a licensee builds it.
+outside-test: tools-are-there $(OUTSIDE)/plan_and_play $(OUTSIDE)/compare $(OUTSIDE)/bridge-product
+	outside/archive.sh $(ARCHIVE) include/templetbark.h
 	$(X86_RUN) $(OUTSIDE)/plan_and_play >$(OUTSIDE)/plan_and_play.wrote
 	diff examples/plan_and_play.expected $(OUTSIDE)/plan_and_play.wrote
+	outside/licensee.sh $(ARCHIVE) $(OUTSIDE)/licensee
 	$(OUTSIDE)/compare $(X86_RUN) $(OUTSIDE)/bridge-product
 
 # The comparison itself: the hand-written version passes it, and each wrong version of it is caught.
-outside-wrong: $(OUTSIDE)/compare $(OUTSIDE)/bridge-by_hand
+outside-wrong: tools-are-there $(OUTSIDE)/compare $(OUTSIDE)/bridge-by_hand
 	$(OUTSIDE)/compare $(X86_RUN) $(OUTSIDE)/bridge-by_hand
 	outside/wrong.sh $(OUTSIDE) $(X86_CLANG) '$(X86_LINK)' '$(X86_RUN)'
 
 # The library beside the hand-written version and the literal search, for docs/PERFORMANCE.md.
-bench: $(OUTSIDE)/bench $(OUTSIDE)/bridge-product $(OUTSIDE)/bridge-by_hand $(OUTSIDE)/bridge-literal
+bench: tools-are-there $(OUTSIDE)/bench $(OUTSIDE)/bridge-product $(OUTSIDE)/bridge-by_hand $(OUTSIDE)/bridge-literal
 	$(OUTSIDE)/bench '$(X86_RUN) $(OUTSIDE)/bridge-product' '$(X86_RUN) $(OUTSIDE)/bridge-by_hand' \
 		'$(X86_RUN) $(OUTSIDE)/bridge-literal'
