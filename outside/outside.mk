@@ -88,4 +88,4 @@ outside-wrong: tools-are-there $(OUTSIDE)/compare $(OUTSIDE)/bridge-by_hand
 # The library beside the hand-written version and the literal search, for docs/PERFORMANCE.md.
 bench: tools-are-there $(OUTSIDE)/bench $(OUTSIDE)/bridge-product $(OUTSIDE)/bridge-by_hand $(OUTSIDE)/bridge-literal
 	$(OUTSIDE)/bench '$(X86_RUN) $(OUTSIDE)/bridge-product' '$(X86_RUN) $(OUTSIDE)/bridge-by_hand' \
-		'$(X86_RUN) $(OUTSIDE)/bridge-literal'
+		'$(X86_RUN) $(OUTSIDE)/bridge-literal own-stack'

@@ -3,7 +3,8 @@
  *
  * The archive is x86-64 code and the tests run on any machine, so the tests ask and this program
  * calls. Nothing is judged here: the answer and every lent slice, as the call left them, go back
- * to be compared. An empty slice is lent by turns as the unreadable page and as a null pointer.
+ * to be compared. An empty slice is lent by turns as the unreadable page and as a null pointer. With
+ * any word behind its name the program calls on its own stack: the literal search needs more.
  *
  * A request is 64-bit words (operation, times to call, number, slices, then each slice's bytes)
  * and the slices themselves. A reply is 64-bit words (refusal, place, value, whether the bytes
@@ -129,8 +130,9 @@ static int margin_kept(const lent *slice)
     return kept;
 }
 
-int main(void)
+int main(int words, char **word)
 {
+    (void)word;
     lent *slices = asked.slices;
     for (int i = 0; i < ROOMS; i++)
         slices[i].end = room_end(ROOM);
@@ -152,7 +154,10 @@ int main(void)
         asked.times = request.times;
         asked.number = request.number;
         uint64_t began = now();
-        call_on(stack);
+        if (words > 1)
+            call_asked();
+        else
+            call_on(stack);
         uint64_t nanoseconds = now() - began;
 
         uint64_t kept = 1;
