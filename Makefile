@@ -29,7 +29,6 @@ test: kit tools-are-there
 	@$(MAKE) --no-print-directory --jobs=2 outside-test
 	@$(MAKE) --no-print-directory sheets
 	@rt ci
-	@outside/prove.sh --linked planner
 
 # The plan of a sheet, and nothing else, on standard output.
 run: sheet-is-there program

@@ -3,14 +3,7 @@
 #
 # prove.sh NAME: afterwards target/bin/NAME is the one that was linked. rt's stamp says nothing about
 # that file, so its sum is kept too: where the file is gone or another one, it is linked again.
-# prove.sh --linked NAME: the file that stands there was just linked by rt itself.
 set -u
-sum_of() { sha256sum "target/bin/$1" >"target/$1.sum"; }
-
-if [ "$1" = --linked ]; then
-    sum_of "$2"
-    exit
-fi
 name=$1
 log=target/$name.log
 left=$(NAME=$name awk '
@@ -56,4 +49,4 @@ sha256sum --status -c "target/$name.sum" 2>/dev/null || rm -f "target/stamp/$nam
     echo "make: $name is not proved" >&2
     exit 1
 }
-sum_of "$name"
+sha256sum "target/bin/$name" >"target/$name.sum"
