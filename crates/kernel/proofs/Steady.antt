@@ -1,8 +1,8 @@
--- The job that runs goes on running until it finishes or, where it is not locked, until a release: what a play from
--- decision to decision rests on.
+-- The job that runs goes on running up to the next release, and for as long as it is locked: what a play from decision
+-- to decision rests on.
 use Prim.Native.Nat.{ℕ, zero, suc, _+_, _≤_, _<_}
 use mathlib.Core.Path.{_≡_, _∙_}
-use mathlib.Core.Bool.{true}
+use mathlib.Core.Bool.{true, false}
 use mathlib.Core.Logic.{_⊎_, ⊎-elim}
 use native.Mathlib.Omega.{arith}
 use native.Mathlib.Nat.{add-suc, add-zero}
@@ -23,11 +23,13 @@ locked-on tb p i e d h = by-bool (locked tb p i (e + d)) (λ g. g) (λ g. absurd
 abbrev pub Calm : Jobs → ℕ → ℕ → Type 0
 Calm js t x = (k : ℕ) → k < js .N → js .release k ≤ t + x → js .release k ≤ t
 
--- Job c runs in tick t, d ticks at least are left to it, and in each of them it is locked or nothing was released
--- since.
+-- Job c runs in tick t, and d ticks at least are left to it. In each of them it is locked, or it was not locked at t and
+-- nothing was released since. (Locked at t it may have run past a job of higher rank, which runs once it is not.)
 module _ (tb : Table) (p : Plan) (js : Jobs) (sound : Sound tb) (wf : WellFormed tb p) (lawful : Lawful tb js)
     (t c d : ℕ) (is : X.runs tb p js t ≡ job c) (left : X.E tb p js t c + d ≤ js .run c)
-    (calm : (x : ℕ) → x < d → (locked tb p (js .row c) (X.E tb p js t c + x) ≡ true) ⊎ Calm js t x) where
+    (calm : (x : ℕ) → x < d →
+    (locked tb p (js .row c) (X.E tb p js t c + x) ≡ true)
+    ⊎ ((locked tb p (js .row c) (X.E tb p js t c) ≡ false) × Calm js t x)) where
   abbrev E : ℕ → ℕ → ℕ
   E = X.E tb p js
 
@@ -67,9 +69,9 @@ module _ (tb : Table) (p : Plan) (js : Jobs) (sound : Sound tb) (wf : WellFormed
   goes-on : (x : ℕ) → x < d → After x → X.runs tb p js (t + x) ≡ job c
   goes-on x h a =
       ⊎-elim (on x h a)
-      (λ quiet. R.rule-of tb p js (E t) t c is
-      (λ _ r. on x h a (locked-on tb p (js .row c) (E t c) x (r .held)))
-      (λ _ free lead. led x h a quiet free lead))
+      (λ q. R.rule-of tb p js (E t) t c is
+      (λ _ r. not-both _ (q .0) (r .held))
+      (λ _ free lead. led x h a (q .1) free lead))
       (calm x h)
 
   pub steady : (x : ℕ) → x ≤ d → After x

@@ -183,13 +183,17 @@ module _ {tb : Table} {p : Plan} {js : Jobs} {t next : ℕ} {head done out : ℕ
 
     -- A decision runs its head for d ticks.
     module _ (d : ℕ) (stretch : Stretch js next t (js .run c - done i) (locked tb p i (done i)) d) where
-      calm : (x : ℕ) → x < d → (locked tb p (js .row c) (E t c + x) ≡ true) ⊎ S.Calm js t x
+      calm : (x : ℕ) → x < d →
+          (locked tb p (js .row c) (E t c + x) ≡ true) ⊎ ((locked tb p (js .row c) (E t c) ≡ false) × S.Calm js t x)
       calm x h =
           by-bool (locked tb p i (done i))
           (λ e. inl (rw (mine, executed-head) (S.locked-on tb p i (done i) x e)))
-          (λ e. inr (λ k l g. by-le next k
-          (λ q. absurd (omega (arith, stretch .calm e (omega arith), to-come k q l)))
-          (λ q. nx .came k q)))
+          (λ e. inr (
+            rw (mine, executed-head) e,
+            λ k l g. by-le next k
+                (λ q. absurd (omega (arith, stretch .calm e (omega arith), to-come k q l)))
+                (λ q. nx .came k q),
+          ))
 
       room : E t c + d ≤ js .run c
       room = omega (arith, executed-head, left-head, stretch .within)
