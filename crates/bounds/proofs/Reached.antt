@@ -14,6 +14,7 @@ use Rattle.counting.proofs.Sum.{given-yes, sum-le, sum-delta, sum-ge}
 use Rattle.tables.specs.Table.{Table, Sound}
 use Rattle.tables.specs.Plan.{Plan, WellFormed}
 use Rattle.tables.specs.Jobs.{Jobs, Lawful}
+use Rattle.tables.proofs.Plan.{cap-run, longer-is}
 use Rattle.test.specs.Test.{before, upto, load, Start, above, blocking, ResponseOf}
 use Rattle.test.proofs.Load.{Positive, sound-positive, load-upto, load-part}
 use Rattle.test.proofs.Sides.{start-side-whole}
@@ -150,7 +151,7 @@ module _ (tb : Table) (sound : Sound tb) (p : Plan) (wf : WellFormed tb p) (i : 
       -- no tick before t₀ + s takes J past C − length
       not-before : (t : ℕ) → t < t₀ + s → E t j ≡ tb .C i - q → X.runs tb p js t ≡ job j → ⊥
       not-before t h ej run =
-          let cap = wf .len-high i il in
+          let cap = cap-run tb i (wf .len-high i il) in
           R.rule-of tb p js (E t) t j run
           (λ _ on.
           let past = ltb-true (tb .C (js .row j)) (E t j + p .len (js .row j)) (on .held) in
@@ -175,7 +176,7 @@ module _ (tb : Table) (sound : Sound tb) (p : Plan) (wf : WellFormed tb p) (i : 
           by-le (js .run j) (E (t₀ + s + (q - 1)) j)
           (λ h.
           let c = X.crossing tb p js (tb .C i - q) (t₀ + s) j
-          (omega (arith, J .run, wf .len-low i il, wf .len-high i il)) in
+          (omega (arith, J .run, wf .len-low i il, cap-run tb i (wf .len-high i il))) in
           absurd (not-before (c .0) (c .1) (c .2) (c .3)))
           (λ h. h)
 
@@ -262,7 +263,7 @@ module _ (tb : Table) (sound : Sound tb) (p : Plan) (wf : WellFormed tb p) (i : 
     build opening low t₀ held =
         let κ = x .job in
         let st = x .reached .starts in
-        let cap = wf .len-high i il in
+        let cap = cap-run tb i (wf .len-high i il) in
         let some = wf .len-low i il in
         let after = start-after tb (above p r) B i pos il q some cap (x .period) (x .active) κ s (x .counts) st in
         let room : κ * tb .T i ≤ s = omega arith in
@@ -284,7 +285,8 @@ module _ (tb : Table) (sound : Sound tb) (p : Plan) (wf : WellFormed tb p) (i : 
         (λ z. build (λ _. false) (λ h e. not-both false refl e) 0 (λ t _ _. omega arith))
         (λ l ll lt z.
         let t₀ = tb .C l - p .len l + 1 in
-        let cap = wf .len-high l ll in
+        let cap = cap-run tb l (wf .len-high l ll) in
         let some = wf .len-low l ll in
+        let region = longer-is tb l (p .len l) in
         build (opens l) (opens-low l lt) t₀
         (blocked l ll lt t₀ (x .job) s (λ y h. lt-ltb (tb .C l) (t₀ + y + p .len l) (omega arith)) (omega arith)))

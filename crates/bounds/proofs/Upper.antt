@@ -16,6 +16,7 @@ use Rattle.counting.proofs.Sum.{without-elim, sum-le, sum-lt, sum-add, sum-mul,
 use Rattle.tables.specs.Table.{Table, Sound}
 use Rattle.tables.specs.Plan.{Plan, WellFormed}
 use Rattle.tables.specs.Jobs.{Jobs, Lawful}
+use Rattle.tables.proofs.Plan.{cap-run, longer-ge}
 use Rattle.test.specs.Test.{before, upto, load, Active, jobs, Start, above, blocking, ResponseOf}
 use Rattle.test.proofs.Load.{Positive, sound-positive, load-mono, load-upto, load-sub}
 use Rattle.test.proofs.Sides.{active-side-is, active-side-level, start-side-whole}
@@ -39,7 +40,13 @@ locked-short tb p js wf lawful r k e n l h fits held =
     (λ z. omega arith)
     (λ z.
     let held₀ = ltb-true (tb .C i) (e + 0 + p .len i) (held 0 (omega arith)) in
-    omega (arith, lawful .run-high k l, longest-ge tb p r i (lawful .row k l) h, blocking-is tb p r))
+    omega (
+      arith,
+      lawful .run-high k l,
+      longer-ge tb i (p .len i),
+      longest-ge tb p r i (lawful .row k l) h,
+      blocking-is tb p r,
+    ))
 
 module _ (tb : Table) (sound : Sound tb) (p : Plan) (wf : WellFormed tb p) (js : Jobs) (lawful : Lawful tb js)
     (j : ℕ) (jl : j < js .N) where
@@ -283,7 +290,7 @@ module _ (tb : Table) (sound : Sound tb) (p : Plan) (wf : WellFormed tb p) (js :
         (λ h. early (t₀ + x) (omega arith) h) in
         let le = sum-le _ _ (js .N) (each t₁ part (part-bound f)) in
         let both = sum-add (λ k. given (level k) (E t₀ k)) part (js .N) in
-        let side = start-side-whole tb (above p r) B i q (suc κ) s (omega arith) (wf .len-high i il) in
+        let side = start-side-whole tb (above p r) B i q (suc κ) s (omega arith) (cap-run tb i (wf .len-high i il)) in
         omega (arith, level-work (suc s) b, part-sum, st .holds)
 
     -- and done by t₀ + s + length
@@ -310,7 +317,8 @@ module _ (tb : Table) (sound : Sound tb) (p : Plan) (wf : WellFormed tb p) (js :
       let apart = κ-apart in
       let counts : κ < jobs tb (above p r) B i L =
       lt-up L κ (pos .T i il) (omega (arith, soon L (x .active), z .upto)) in
-      let s = start-exists tb (above p r) B i pos il q (wf .len-low i il) (wf .len-high i il) L (x .active)
+      let s = start-exists tb (above p r) B i pos il q (wf .len-low i il) (cap-run tb i (wf .len-high i il)) L
+      (x .active)
       (suc κ) (omega arith) counts in
       let most = x .highest κ (s .0 + q) counts (record { start = s .0; starts = s .1; ends = refl }) in
       let u = js .release j + R in

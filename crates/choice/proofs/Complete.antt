@@ -9,7 +9,7 @@ use Rattle.counting.specs.Sum.{without}
 use Rattle.counting.proofs.Cases.{by-le, by-eq}
 use Rattle.counting.proofs.Sum.{is-without}
 use Rattle.tables.specs.Table.{Table}
-use Rattle.tables.specs.Plan.{Plan, WellFormed, cap}
+use Rattle.tables.specs.Plan.{Plan, WellFormed, cap, longer, blocks}
 use Rattle.test.specs.Test.{before, load, Response, above, longest, blocking, RowPasses, Passes}
 use Rattle.test.proofs.Load.{Positive, load-ext}
 use Rattle.test.proofs.Plans.{blocking-is, longest-ge, longest-le, longest-cases}
@@ -81,7 +81,7 @@ module _ (tb : Table) (pos : Positive tb) (p : Plan) where
     -- other rows of rank up to that of y stand above and those of greater rank below
     pub chosen-shortest : (y z q R : ℕ) → y < tb .n → z < tb .n → p .rank z ≤ p .rank y → 1 ≤ q → q ≤ cap tb z →
         Response tb (without (unplaced p (p .rank y)) z) (blocking tb p (p .rank y)) z q R → R ≤ tb .D z →
-        (p .len y ≤ q) × (p .len y ≡ q → y ≤ z)
+        (blocks tb p y ≤ longer tb z q) × (blocks tb p y ≡ longer tb z q → y ≤ z)
     chosen-shortest y z q R l g h low high x within =
         let s = p .rank y in
         takes-least tb (unplaced p s) (blocking tb p s) (unplaced p s) y (p .len y) z q pos
@@ -109,7 +109,7 @@ module _ (tb : Table) (pos : Positive tb) (p : Plan) where
             high = wf .len-high y l;
             fits = rw (k .2, blocking-is tb p s) at fits;
           },
-          peels-compare tb pos r (without (unplaced p s) y) (unplaced p r) (max (longest tb p s) (p .len y)) _
+          peels-compare tb pos r (without (unplaced p s) y) (unplaced p r) (max (longest tb p s) (blocks tb p y)) _
               (λ j g. sym (unplaced-next p r y j (k .2) (λ e. once j g (e ∙ sym (k .2)))))
               (omega (arith, own, longest-le tb p p s r (λ j g lt. (omega arith, omega arith))))
               (peels-of r (omega arith)),
@@ -133,13 +133,13 @@ module _ (tb : Table) (pos : Positive tb) (p : Plan) (o : Plan) (wf : WellFormed
       let q = p .len y in
       let t = k .3 in
       let b = blocking-is tb p s in
-      peels-compare tb pos r (unplaced p r) (without (unplaced p s) y) (longest tb p r) (max (longest tb p s) q)
+      peels-compare tb pos r (unplaced p r) (without (unplaced p s) y) (longest tb p r) (max (longest tb p s) (longer tb y q))
       (λ j g. unplaced-next p r y j (k .2) (λ e. f .once j y g (k .1) (omega arith) (e ∙ sym (k .2))))
       (longest-cases tb p r
       (λ e. omega arith)
       (λ j l lt e.
       by-eq (p .rank j) s
-      (λ x. omega (arith, ap (p .len) (f .once j y l (k .1) lt (x ∙ sym (k .2)))))
+      (λ x. omega (arith, ap (blocks tb p) (f .once j y l (k .1) lt (x ∙ sym (k .2)))))
       (λ x. omega (arith, longest-ge tb p s j l (omega arith)))))
       (exchange tb pos r (unplaced p s) (longest tb p s) y q
       (record {

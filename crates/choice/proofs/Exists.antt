@@ -1,6 +1,6 @@
 -- The choice always ends or stops: under a busy period within H, some plan is chosen or the choice stops at a rank.
 use Prim.Native.Nat.{ℕ, zero, suc, _≤_, _<_}
-use mathlib.Core.Path.{_≡_, refl, _∙_}
+use mathlib.Core.Path.{_≡_, refl, ap, _∙_}
 use mathlib.Core.Bool.{Bool, true, false, cond}
 use mathlib.Core.Logic.{_⊎_, inl, inr, ⊎-elim}
 use native.Mathlib.Omega.{arith}
@@ -8,15 +8,17 @@ use lib.Dec.{eqb}
 use borrow.Author.Tests.{eq-eqb, ne-eqb, lt-leb}
 use Rattle.counting.specs.Sum.{without, largest}
 use Rattle.counting.specs.Least.{Least}
-use Rattle.counting.proofs.Cases.{by-bool, by-le, by-eq, not-both}
+use Rattle.counting.proofs.Cases.{by-bool, by-eq, not-both}
+use Rattle.counting.proofs.Least.{least-unique}
 use Rattle.tables.specs.Table.{Table, Sound}
-use Rattle.tables.specs.Plan.{Plan, WellFormed, cap}
+use Rattle.tables.specs.Plan.{Plan, WellFormed, cap, longer}
+use Rattle.tables.proofs.Plan.{longer-run}
 use Rattle.test.specs.Test.{BusyWithin, Active, blocking, Passes}
 use Rattle.test.proofs.Load.{Positive, sound-positive}
 use Rattle.test.proofs.Sides.{active-side-level}
 use Rattle.test.proofs.Plans.{level-active, room}
-use Rattle.choice.specs.Choice.{unplaced, Fits, Takes, NoneFits, Filled, Chosen, Stopped}
-use Rattle.choice.proofs.Level.{first-of, fits-or-not}
+use Rattle.choice.specs.Choice.{unplaced, Shortest, Takes, NoneFits, Filled, Chosen, Stopped}
+use Rattle.choice.proofs.Level.{first-of, shortest-or-not, least-fit}
 use Rattle.counting.proofs.Sum.{largest-ge, count-le}
 use Rattle.choice.proofs.Placed.{Placed, filled-none, filled-placed}
 use Rattle.choice.proofs.Complete.{chosen-well-formed, chosen-passes, stopped-no-plan}
@@ -24,71 +26,65 @@ use Rattle.choice.proofs.Complete.{chosen-well-formed, chosen-passes, s
 -- one level, where the active period of each of its rows is known
 module _ (tb : Table) (pos : Positive tb) (U : ℕ → Bool) (b : ℕ)
     (periods : (z : ℕ) → z < tb .n → U z ≡ true → (L : ℕ) × Active tb (without U z) b z L) where
-  -- the length q passes for the row z of U
-  abbrev Passing : ℕ → ℕ → Type 0
-  Passing q z = (z < tb .n) × (U z ≡ true) × (q ≤ cap tb z) × Fits tb (without U z) b z q
+  -- the row z of U has a shortest passing length, and blocks with m at it
+  abbrev Blocking : ℕ → ℕ → Type 0
+  Blocking m z = (z < tb .n) × (U z ≡ true) × (q : ℕ) × Shortest tb U b z q × (longer tb z q ≡ m)
 
-  passing-or-not : (q z : ℕ) → 1 ≤ q → z < tb .n → Passing q z ⊎ ¬ Passing q z
-  passing-or-not q z low l =
+  blocking-or-not : (m z : ℕ) → z < tb .n → Blocking m z ⊎ ¬ Blocking m z
+  blocking-or-not m z l =
       by-bool (U z)
       (λ u.
-      by-le q (cap tb z)
-      (λ h.
       let a = periods z l u in
-      fits-or-not tb pos z l (without U z) b (a .0) (a .1) q low h (λ f. inl (l, u, h, f)) (λ n. inr (λ x. n (x .3))))
-      (λ h. inr (λ x. omega (arith, x .2))))
+      ⊎-elim
+      (λ s.
+      by-eq (longer tb z (s .0)) m
+      (λ e. inl (l, u, s .0, s .1, e))
+      (λ e. inr (λ x. e (ap (longer tb z) (least-unique (s .1) (x .3)) ∙ x .4))))
+      (λ none. inr (λ x. none (x .2) (x .3 .low) (x .3 .holds .0) (x .3 .holds .1)))
+      (shortest-or-not tb pos z l (without U z) b (a .0) (a .1)))
       (λ u. inr (λ x. not-both (U z) u (x .1)))
 
-  -- the first row for which the length q passes
+  -- the first row that blocks with m
   abbrev FirstRow : ℕ → Type 0
-  FirstRow q = (1 ≤ q) × (y : ℕ) × Least (Passing q) 0 y
+  FirstRow m = (y : ℕ) × Least (Blocking m) 0 y
 
-  first-row : (q : ℕ) → 1 ≤ q → FirstRow q ⊎ ((z : ℕ) → ¬ Passing q z)
-  first-row q low =
-      ⊎-elim
-      (λ r. inl (low, r .0, r .1))
-      (λ none. inr (λ z x. none z (x .0) x))
-      (first-of (tb .n) (λ z l. passing-or-not q z low l))
+  first-row : (m : ℕ) → FirstRow m ⊎ ((z : ℕ) → ¬ Blocking m z)
+  first-row m = ⊎-elim inl (λ none. inr (λ z x. none z (x .0) x)) (first-of (tb .n) (blocking-or-not m))
 
-  some-row : (q z : ℕ) → 1 ≤ q → Passing q z → FirstRow q
-  some-row q z low x = ⊎-elim (λ f. f) (λ none. absurd (none z x)) (first-row q low)
+  some-row : (m z : ℕ) → Blocking m z → FirstRow m
+  some-row m z x = ⊎-elim (λ f. f) (λ none. absurd (none z x)) (first-row m)
 
-  -- one of the rows of U takes the rank, the first that the least passing length passes for; or none fits
+  -- one of the rows of U takes the rank, the first of those that block with the least; or none fits
   level-found : ((y : ℕ) × (q : ℕ) × Takes tb U b U y q) ⊎ NoneFits tb U b U
   level-found =
       ⊎-elim
       (λ r.
-      let q = r .0 in
-      let y = r .1 .holds .1 in
-      let first = r .1 .holds .2 in
+      let first = r .1 .holds .1 in
       let w = first .holds in
-      let shorter : (l z : ℕ) → 1 ≤ l → Passing l z → q ≤ l =
-      λ l z low x. r .1 .least l (omega arith) (some-row l z low x) in
       inl (
-        y,
-        q,
+        r .1 .holds .0,
+        w .2,
         record {
           row = w .0;
           try = w .1;
-          shortest =
-              record {
-                low = r .1 .holds .0;
-                holds = (w .2, w .3);
-                least = λ l low f. shorter l y low (w .0, w .1, f .0, f .1);
-              };
-          least = λ z l g e s. shorter l z (s .low) (g, e, s .holds .0, s .holds .1);
-          earliest =
-              λ z h e s.
-              let g : z < tb .n = omega (arith, w .0) in
-              omega (arith, first .least z (omega arith) (g, e, s .holds .0, s .holds .1));
+          shortest = w .3;
+          least = λ z l g e s.
+              omega (
+                arith,
+                w .4,
+                r .1 .least (longer tb z l) (omega arith)
+                    (some-row (longer tb z l) z (g, e, l, s, refl)),
+              );
+          earliest = λ z l h e s same.
+              omega (arith, first .least z (omega arith) (omega (arith, w .0), e, l, s, same ∙ w .4));
         },
       ))
       (λ none. inr (λ z q l e low high f.
-      none q (omega (arith, largest-ge (tb .C) (tb .n) z l)) (some-row q z low (l, e, high, f))))
-      (first-of (suc (largest (tb .C) (tb .n))) (λ q _.
-      by-le 1 q
-      (λ low. ⊎-elim inl (λ none. inr (λ x. none (x .1) (x .2 .holds))) (first-row q low))
-      (λ zero. inr (λ x. omega (arith, x .0)))))
+      let s = least-fit tb pos z l (without U z) b q low high f in
+      none (longer tb z (s .0)) (omega (arith, longer-run tb z (s .1 .holds .0), largest-ge (tb .C) (tb .n) z l))
+      (some-row _ z (l, e, s .0, s .1, refl))))
+      (first-of (suc (largest (tb .C) (tb .n))) (λ m _.
+      ⊎-elim inl (λ none. inr (λ x. none (x .0) (x .1 .holds))) (first-row m)))
 
 -- row y of a plan placed at rank s with the length q
 place : Plan → ℕ → ℕ → ℕ → Plan
@@ -117,7 +113,7 @@ module _ (tb : Table) (sound : Sound tb) (w : BusyWithin tb) where
       let s = suc r in
       let U = unplaced p s in
       let b = blocking tb p s in
-      let out : (j : ℕ) → j < tb .n → s < p .rank j → (U j ≡ false) × (p .len j ≤ tb .C j) =
+      let out : (j : ℕ) → j < tb .n → s < p .rank j → (U j ≡ false) × (p .len j ≤ cap tb j) =
       λ j g lt. (lt-leb (p .rank j) s lt, f .takes j g lt .shortest .holds .0) in
       let periods : (z : ℕ) → z < tb .n → U z ≡ true → (L : ℕ) × Active tb (without U z) b z L =
       λ z l e.

@@ -9,7 +9,7 @@ use Rattle.counting.specs.Sum.{without, count}
 use Rattle.counting.proofs.Cases.{by-eq}
 use Rattle.counting.proofs.Sum.{count-all, count-without, count-ext, count-le}
 use Rattle.tables.specs.Table.{Table}
-use Rattle.tables.specs.Plan.{Plan}
+use Rattle.tables.specs.Plan.{Plan, longer, blocks}
 use Rattle.test.specs.Test.{longest, blocking}
 use Rattle.test.proofs.Load.{Positive}
 use Rattle.test.proofs.Plans.{blocking-is, longest-ge, longest-le, longest-cases}
@@ -101,20 +101,24 @@ module _ (tb : Table) (pos : Positive tb) (p p′ : Plan) (r y q : ℕ) (f : Fil
           omega (arith, f .left)
 
   -- the blocking of the rows placed grows to that of row y
-  pub blocking-placed : blocking tb p′ r ≡ max (blocking tb p (suc r)) (q - 1)
+  pub blocking-placed : blocking tb p′ r ≡ max (blocking tb p (suc r)) (longer tb y q - 1)
   blocking-placed =
       let own = longest-ge tb p′ r y (t .row) (omega (arith, h .rank)) in
       let old = longest-le tb p p′ (suc r) r
       (λ j l lt.
       let o = h .others j l (λ x. omega (arith, ap (p .rank) x, before-placed)) in
       (omega (arith, o .0), omega (arith, o .1))) in
-      omega (arith, blocking-is tb p′ r, blocking-is tb p (suc r), t .shortest .low, h .len, new)
+      omega (arith, blocking-is tb p′ r, blocking-is tb p (suc r), ap (longer tb y) (h .len), new)
     where
-      new : longest tb p′ r ≤ max (longest tb p (suc r)) q
+      new : longest tb p′ r ≤ max (longest tb p (suc r)) (longer tb y q)
       new =
           longest-cases tb p′ r
           (λ e. omega arith)
           (λ j l lt e.
           by-eq j y
-          (λ x. omega (arith, h .len, ap (p′ .len) x))
-          (λ x. omega (arith, h .others j l x .1, longest-ge tb p (suc r) j l (higher-before j l x lt))))
+          (λ x. omega (arith, ap (longer tb y) (h .len), ap (blocks tb p′) x))
+          (λ x. omega (
+            arith,
+            ap (longer tb j) (h .others j l x .1),
+            longest-ge tb p (suc r) j l (higher-before j l x lt),
+          )))

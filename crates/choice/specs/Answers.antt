@@ -5,8 +5,8 @@ use mathlib.Core.List.{List, [], _∷_}
 use lib.ListN.{length, drop}
 use Rattle.tables.specs.Table.{Table, tableOf}
 pub use Rattle.tables.specs.Planned.{planned-width, plannedOf, responseIn}
-use Rattle.tables.specs.Refusal.{Check, Result, Answered}
-use Rattle.tables.specs.Checks.{shape, range, room}
+use Rattle.tables.specs.Refusal.{Check, Result, bare, Answered}
+use Rattle.tables.specs.Checks.{room, table-checks}
 use Rattle.test.specs.Test.{ResponseOf}
 use Rattle.test.specs.Answers.{no-busy}
 use Rattle.choice.specs.Choice.{Chosen, Stopped}
@@ -25,9 +25,12 @@ pub record PlanGiven (tb : Table) (out : List ℕ) (value : ℕ) (after : List �
   pub whole : length after ≡ length out
   pub rest : drop (planned-width * tb .n) after ≡ drop (planned-width * tb .n) out
 
--- plan: the checks 1, 3, 2, 4 and 5 in this order, with three places of the output a row; then the planned table
+-- plan: the checks 1, 3, 2, 4 and 5 in this order, with a place of the output for each number; then the planned table
+abbrev pub plan-rest : List ℕ → Table → List Check
+plan-rest out tb = room (planned-width * tb .n) out ∷ no-busy tb ∷ no-plan tb ∷ []
+
+abbrev pub plan-checks : List ℕ → List ℕ → List Check
+plan-checks xs out = table-checks xs (plan-rest out)
+
 abbrev pub PlanAnswer : List ℕ → List ℕ → Result → Type 0
-PlanAnswer xs out r =
-    let tb = tableOf xs in
-    Answered (shape xs ∷ range xs ∷ room (planned-width * tb .n) out ∷ no-busy tb ∷ no-plan tb ∷ []) (PlanGiven tb out)
-    out r
+PlanAnswer xs out r = Answered bare (plan-checks xs out) (PlanGiven (tableOf xs) out) out r

@@ -6,7 +6,7 @@ use lib.Dec.{leb}
 use Rattle.counting.specs.Sum.{without, count}
 use Rattle.counting.specs.Least.{Least}
 use Rattle.tables.specs.Table.{Table}
-use Rattle.tables.specs.Plan.{Plan, cap}
+use Rattle.tables.specs.Plan.{Plan, cap, longer}
 use Rattle.test.specs.Test.{Response, blocking}
 
 -- "each row not yet placed": while rank r is being filled, the rows that have no rank greater than r in the plan;
@@ -30,14 +30,14 @@ module _ (tb : Table) (U : ℕ → Bool) (b : ℕ) where
 
   -- of the rows that are tried
   module _ (tried : ℕ → Bool) where
-    -- "takes the rank": row y does, with the length q; q is its shortest passing length, no row that is tried has a
-    -- shorter one, and none that stands earlier in the table has an equal one
+    -- "takes the rank": row y does, with the length q; q is its shortest passing length, no row that is tried blocks
+    -- with less at its own, and none that stands earlier in the table with as much
     pub record Takes (y q : ℕ) : Type 0 where
       pub row : y < tb .n
       pub try : tried y ≡ true
       pub shortest : Shortest y q
-      pub least : (z l : ℕ) → z < tb .n → tried z ≡ true → Shortest z l → q ≤ l
-      pub earliest : (z : ℕ) → z < y → tried z ≡ true → Shortest z q → ⊥
+      pub least : (z l : ℕ) → z < tb .n → tried z ≡ true → Shortest z l → longer tb y q ≤ longer tb z l
+      pub earliest : (z l : ℕ) → z < y → tried z ≡ true → Shortest z l → longer tb z l ≡ longer tb y q → ⊥
 
     -- "If no row has": no length from 1 to the most that it may be passes for any row that is tried
     abbrev pub NoneFits : Type 0

@@ -2,7 +2,7 @@
 use Prim.Native.Nat.{ℕ, _+_, _*_, _<_}
 use mathlib.Core.Path.{_≡_, refl, ap, sym, _∙_, subst}
 use mathlib.Core.Logic.{⊎-elim}
-use mathlib.Core.List.{List, [], _∷_, _++_}
+use mathlib.Core.List.{List, _++_}
 use native.Mathlib.Omega.{arith}
 use lib.ListN.{length, getD, take}
 use lib.Seq.{getD-take, take-at, length-take-le}
@@ -10,9 +10,10 @@ use Rattle.counting.proofs.Cases.{by-eq}
 use Rattle.tables.specs.Table.{Table, tableOf, row-width}
 use Rattle.tables.specs.Plan.{Plan, WellFormed, planOf}
 use Rattle.tables.specs.Planned.{planned-width, plannedOf, responseIn}
-use Rattle.tables.specs.Refusal.{Result}
-use Rattle.tables.specs.Checks.{Rows, range, room}
+use Rattle.tables.specs.Refusal.{Result, bare}
+use Rattle.tables.specs.Checks.{Rows}
 use Rattle.tables.proofs.Answered.{granted}
+use Rattle.tables.proofs.Plan.{cap-run}
 use Rattle.tables.proofs.Clear.{plan-of-clear, sound-of-clear}
 use Rattle.decimal.specs.Word.{word}
 use Rattle.decimal.specs.Decimal.{decimal}
@@ -24,7 +25,7 @@ use Rattle.test.proofs.Plans.{plan-alike}
 use Rattle.choice.specs.Answers.{PlanAnswer}
 use Rattle.choice.proofs.Complete.{chosen-well-formed, chosen-passes, stopped-no-plan}
 use Rattle.sheet.specs.Sheet.{ticksOf}
-use Rattle.sheet.specs.Answers.{SheetGiven}
+use Rattle.sheet.specs.Answers.{SheetGiven, ticks-checks}
 use Rattle.printing.specs.Printed.{planLine, planText, refusedLine}
 use Rattle.printing.proofs.Inverse.{text-determines}
 use Rattle.program.specs.Reply.{blank, PagePlanned, Page}
@@ -97,7 +98,8 @@ module _ (xs planned : List ℕ) (r : Result) (answer : PlanAnswer xs (blank pla
       let R = responseIn planned i in
       let e = number-same (planned-width * i + 2) (omega arith) in
       let y = subst (ResponseOf tb o i) e
-      (plan-alike tb written o ranks-same i (responseIn (r .out) i) pos l (wf .len-low i l) (wf .len-high i l) x) in
+      (plan-alike tb written o ranks-same i (responseIn (r .out) i) pos l (wf .len-low i l)
+      (cap-run tb i (wf .len-high i l)) x) in
       let pass = chosen-passes tb pos written (gave .given .chosen) i l in
       record {
         never-longer = no-job-takes-longer tb sound o wo i R l y;
@@ -141,7 +143,7 @@ of-sheet text page p zero =
     (λ x.
     let ticks = ticksOf (x .0) (x .1) in
     let g =
-    granted (range ticks ∷ room (length ticks) (blank row-width) ∷ []) (SheetGiven ticks (blank row-width))
+    granted bare (ticks-checks ticks (blank row-width)) (SheetGiven ticks (blank row-width))
     (blank row-width) r refl zero (x .3) .1 .given in
     let table = ap (take (r .value)) (g .whole) ∙ take-at ticks _ (r .value) (sym (g .many)) in
     record {

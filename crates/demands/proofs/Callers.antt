@@ -10,6 +10,7 @@ use Rattle.tables.specs.Plan.{Plan, planOf}
 use Rattle.tables.specs.Jobs.{jobsOf}
 use Rattle.tables.specs.Refusal.{Result}
 use Rattle.test.specs.Test.{ResponseOf}
+use Rattle.test.specs.Answers.{timeIn}
 use Rattle.choice.specs.Answers.{responseIn}
 use Rattle.kernel.specs.Answers.{PlayAnswer}
 use Rattle.kernel.proofs.Finishing.{finish-least}
@@ -32,7 +33,7 @@ exact {xs} {p} g i R l x =
 
 pub times-are-exact : TimesAreExact
 times-are-exact xs ps out r a zero i l =
-    let g = times-gave xs ps out r a zero in exact g i (getD (r .out) i 0) l (g .given .responses i l)
+    let g = times-gave xs ps out r a zero in exact g i (timeIn (r .out) i) l (g .given .responses i l)
 
 pub plan-is-exact : PlanIsExact
 plan-is-exact xs out r a zero i l =
@@ -74,7 +75,7 @@ module _ (xs ps js out : List ℕ) (play : Result) (a : PlayAnswer xs ps js out 
 
 pub times-hold-in-play : TimesHoldInPlay
 times-hold-in-play xs ps js lent out times play ta tz a z k l =
-    in-play xs ps js out play a z k l (getD (times .out) (jobsOf js .row k) 0)
+    in-play xs ps js out play a z k l (timeIn (times .out) (jobsOf js .row k))
     (times-gave xs ps lent times ta tz .given .responses (jobsOf js .row k) (row xs ps js out play a z k l))
 
 pub plan-holds-in-play : PlanHoldsInPlay

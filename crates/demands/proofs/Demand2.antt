@@ -4,14 +4,14 @@ use mathlib.Core.Path.{_≡_, sym, _∙_}
 use mathlib.Core.Logic.{⊎-elim}
 use mathlib.Core.List.{List}
 use native.Mathlib.Omega.{arith}
-use lib.ListN.{getD}
 use Rattle.tables.specs.Table.{Table, tableOf}
 use Rattle.tables.specs.Plan.{Plan, planOf}
 use Rattle.tables.specs.Refusal.{Result}
 use Rattle.tables.proofs.Answered.{beyond}
+use Rattle.tables.proofs.Plan.{cap-run}
 use Rattle.tables.proofs.Clear.{clear-of-sound, plan-of-clear, clear-of-plan}
 use Rattle.test.specs.Test.{horizon, BusyWithin, ResponseOf, Passes}
-use Rattle.test.specs.Answers.{Bounded}
+use Rattle.test.specs.Answers.{Bounded, timeIn}
 use Rattle.test.proofs.Load.{Positive, sound-positive}
 use Rattle.test.proofs.Response.{response-unique}
 use Rattle.test.proofs.Plans.{plan-alike, plan-bounded}
@@ -41,7 +41,7 @@ tests-response {xs} {p} g i R l x =
 -- the response times are those of the test
 pub times-are-the-tests : TimesAreTheTests
 times-are-the-tests xs ps out r a zero i l =
-    let g = times-gave xs ps out r a zero in tests-response g i (getD (r .out) i 0) l (g .given .responses i l)
+    let g = times-gave xs ps out r a zero in tests-response g i (timeIn (r .out) i) l (g .given .responses i l)
 
 pub planned-are-the-tests : PlannedAreTheTests
 planned-are-the-tests xs out r a zero i l =
@@ -86,7 +86,7 @@ module _ (xs out : List ℕ) (r : Result) (done : PlanGave xs out r) where
     pub columns-response : (i R : ℕ) → i < tb .n → ResponseOf tb p i R → ResponseOf tb (planOf ps) i R
     columns-response i R l x =
         plan-alike tb p (planOf ps) (λ j m. (c .rank j m, c .len j m)) i R pos l (done .plan .len-low i l)
-        (done .plan .len-high i l) x
+        (cap-run tb i (done .plan .len-high i l)) x
 
     columns-pass : Passes tb (planOf ps)
     columns-pass i l =

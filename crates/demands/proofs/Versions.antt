@@ -13,11 +13,12 @@ use Rattle.tables.specs.Table.{Sound, tableOf}
 use Rattle.tables.specs.Refusal.{Result}
 use Rattle.tables.proofs.Clear.{sound-of-clear}
 use Rattle.choice.specs.Answers.{PlanAnswer}
-use Rattle.starred.specs.Figures.{figures, further, wholly, second-table, third-table, three-rows, overloaded-table}
+use Rattle.starred.specs.Figures.{wholly, second-table, third-table, three-rows, overloaded-table}
 use Rattle.starred.specs.Figures.{urgent-first, three-thirds, one-tick-over}
 use Rattle.starred.proofs.Tests.{Test, less, both, each}
 use Rattle.starred.proofs.Clears.{table-test}
-use Rattle.starred.proofs.Figures.{starred-figures, further-figures}
+use Rattle.starred.proofs.Figures.{second-right, third-right, three-right, overloaded-right, urgent-right}
+use Rattle.starred.proofs.Figures.{thirds-right, over-right}
 use Rattle.plan.proofs.Unique.{plan-unique}
 use Rattle.demands.specs.Versions.{Version, Words, Always, six, six-marked, nine, BreaksOn, BreaksOnOneOf}
 use Rattle.demands.specs.Versions.{RefusesEverything}
@@ -46,19 +47,16 @@ module _ (f : Version) where
   -- (2,5,5) (4,7,7): (1,1,3) (2,2,7)
   at-second : PlanAnswer second-table six (f second-table six) →
       f second-table six ≡ wholly (1 ∷ 1 ∷ 3 ∷ 2 ∷ 2 ∷ 7 ∷ [])
-  unfolding figures
-  at-second a = plan-unique second-table six _ _ a (starred-figures .1 .0 six refl)
+  at-second a = plan-unique second-table six _ _ a (second-right six refl)
 
   -- (2,5,5) (4,6,7): (1,1,4) (2,3,6)
   at-third : PlanAnswer third-table six (f third-table six) → f third-table six ≡ wholly (1 ∷ 1 ∷ 4 ∷ 2 ∷ 3 ∷ 6 ∷ [])
-  unfolding figures
-  at-third a = plan-unique third-table six _ _ a (starred-figures .1 .1 .1 .1 .1 .1 .1 .0 six refl)
+  at-third a = plan-unique third-table six _ _ a (third-right six refl)
 
   -- (1,4,4) (1,6,6) (4,12,12): (2,1,2) (1,1,1) (3,1,8)
   at-rows : PlanAnswer three-rows nine (f three-rows nine) →
       f three-rows nine ≡ wholly (2 ∷ 1 ∷ 2 ∷ 1 ∷ 1 ∷ 1 ∷ 3 ∷ 1 ∷ 8 ∷ [])
-  unfolding figures
-  at-rows a = plan-unique three-rows nine _ _ a (starred-figures .1 .1 .1 .1 .1 .1 .1 .1 .1 .0 nine refl)
+  at-rows a = plan-unique three-rows nine _ _ a (three-right nine refl)
 
   refuses : RefusesEverything f → BreaksOn second-table six f
   unfolding all words
@@ -80,10 +78,7 @@ module _ (f : Version) where
   -- (2,3,3) (2,3,3): refused 4, and the output is as it was
   at-overloaded : (out : List ℕ) → 6 ≤ length out → PlanAnswer overloaded-table out (f overloaded-table out) →
       f overloaded-table out ≡ record { number = 4; place = 0; value = 0; out = out }
-  unfolding figures
-  at-overloaded out l a =
-      plan-unique overloaded-table out _ _ a
-      (starred-figures .1 .1 .1 .1 .1 .1 .1 .1 .1 .1 .1 .1 .1 .1 .1 .0 out l)
+  at-overloaded out l a = plan-unique overloaded-table out _ _ a (overloaded-right out l)
 
   written : WritesOnARefusal f → BreaksOnOneOf overloaded-table six overloaded-table six-marked f
   unfolding all words
@@ -108,9 +103,9 @@ module _ (f : Version) where
 
   -- (1,1,10) (1,5,10) (1,12,12): (1,1,1) (3,1,3) (2,1,2)
   lowest-only-down : SearchesTheLowestOnly (λ rank i j. rank j < rank i) f → BreaksOn urgent-first nine f
-  unfolding all words further
+  unfolding all words
   lowest-only-down w a =
-      let e = plan-unique urgent-first nine _ _ a (further-figures .0 nine refl) in
+      let e = plan-unique urgent-first nine _ _ a (urgent-right nine refl) in
       let r₀ = number-at e 0 in
       let r₂ = number-at e 6 in
       let ordered = on w urgent-first nine refl (number-of e) 0 2 in
@@ -126,17 +121,17 @@ module _ (f : Version) where
 
   -- (1,3,3) three times is planned, though each third is rounded up
   rounded-up : (whole : ℕ) → (whole % 3 ≡ 0 → ⊥) → RefusesByUtilisation up whole f → BreaksOn three-thirds nine f
-  unfolding all words further table-test up sum
+  unfolding all words table-test up sum
   rounded-up whole uneven w a =
-      let e = plan-unique three-thirds nine _ _ a (further-figures .1 .0 nine refl) in
+      let e = plan-unique three-thirds nine _ _ a (thirds-right nine refl) in
       let four = on w three-thirds nine refl refl (sound three-thirds refl) (omega arith) .1 (omega arith) in
       omega (arith, four, number-of e)
 
   -- (500000,1000000,1000000) (500001,1000000,1000000) is refused with 4, though the halves are rounded down
   rounded-down : (whole : ℕ) → whole < 1000000 → RefusesByUtilisation _/_ whole f → BreaksOn one-tick-over six f
-  unfolding all words further table-test sum
+  unfolding all words table-test sum
   rounded-down whole coarse w a =
-      let e = plan-unique one-tick-over six _ _ a (further-figures .1 .1 .0 six (omega arith)) in
+      let e = plan-unique one-tick-over six _ _ a (over-right six (omega arith)) in
       omega (arith, on w one-tick-over six refl refl (sound one-tick-over refl) (omega arith) .0 (number-of e))
 
 pub all-refuted : AllRefuted

@@ -9,7 +9,7 @@ use Rattle.tables.specs.Table.{tableOf}
 use Rattle.tables.specs.Plan.{planOf}
 use Rattle.tables.specs.Jobs.{jobsOf}
 use Rattle.tables.specs.Refusal.{Result}
-use Rattle.test.specs.Answers.{TimesAnswer, VerdictAnswer}
+use Rattle.test.specs.Answers.{timeIn, TimesAnswer, VerdictAnswer}
 use Rattle.choice.specs.Answers.{PlanAnswer, plannedOf, responseIn}
 use Rattle.kernel.specs.Answers.{PlayAnswer}
 use Rattle.demands.specs.Demand2.{Columns}
@@ -21,8 +21,8 @@ abbrev pub TimesAreExact : Type 0
 TimesAreExact =
     (xs ps out : List ℕ) (r : Result) → TimesAnswer xs ps out r → r .number ≡ 0 →
     (i : ℕ) → i < tableOf xs .n →
-    NeverLonger (tableOf xs) (planOf ps) i (getD (r .out) i 0) × TakesExactly (tableOf xs) (planOf ps) i
-    (getD (r .out) i 0)
+    NeverLonger (tableOf xs) (planOf ps) i (timeIn (r .out) i) × TakesExactly (tableOf xs) (planOf ps) i
+    (timeIn (r .out) i)
 
 -- whatever plan wrote for a row is exact for it under the plan that it wrote
 abbrev pub PlanIsExact : Type 0
@@ -46,7 +46,7 @@ TimesHoldInPlay =
     TimesAnswer xs ps lent-times times → times .number ≡ 0 →
     PlayAnswer xs ps js lent-finishes play → play .number ≡ 0 →
     (k : ℕ) → k < jobsOf js .N →
-    getD (play .out) k 0 ≤ jobsOf js .release k + getD (times .out) (jobsOf js .row k) 0
+    getD (play .out) k 0 ≤ jobsOf js .release k + timeIn (times .out) (jobsOf js .row k)
 
 -- whatever plan wrote for a row, in whatever job list play accepted for that table and the plan that it wrote, the
 -- finish that play wrote is at most release plus it

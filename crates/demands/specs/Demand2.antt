@@ -4,14 +4,14 @@ use Prim.Native.Nat.{ℕ, _*_, _≤_, _<_}
 use mathlib.Core.Path.{_≡_}
 use mathlib.Core.Logic.{_↔_}
 use mathlib.Core.List.{List}
-use lib.ListN.{length, getD}
+use lib.ListN.{length}
 use Rattle.counting.specs.Sum.{without}
 use Rattle.tables.specs.Table.{Table, Sound, tableOf, row-width}
-use Rattle.tables.specs.Plan.{Plan, WellFormed, planOf, plan-width, cap}
+use Rattle.tables.specs.Plan.{Plan, WellFormed, planOf, plan-width, cap, longer, blocks}
 use Rattle.tables.specs.Refusal.{Clear, Result}
 use Rattle.tables.specs.Checks.{plan-form}
 use Rattle.test.specs.Test.{horizon, BusyWithin, Response, ResponseOf, blocking, Passes}
-use Rattle.test.specs.Answers.{TimesAnswer, VerdictAnswer}
+use Rattle.test.specs.Answers.{times-width, timeIn, TimesAnswer, VerdictAnswer}
 use Rattle.choice.specs.Choice.{unplaced}
 use Rattle.choice.specs.Answers.{PlanAnswer, planned-width, plannedOf, responseIn}
 
@@ -37,7 +37,7 @@ pub record TestsResponse (tb : Table) (p : Plan) (i R : ℕ) : Type 0 where
 abbrev pub TimesAreTheTests : Type 0
 TimesAreTheTests =
     (xs ps out : List ℕ) (r : Result) → TimesAnswer xs ps out r → r .number ≡ 0 →
-    (i : ℕ) → i < tableOf xs .n → TestsResponse (tableOf xs) (planOf ps) i (getD (r .out) i 0)
+    (i : ℕ) → i < tableOf xs .n → TestsResponse (tableOf xs) (planOf ps) i (timeIn (r .out) i)
 
 -- and what plan wrote for a row is the test's response under the plan that it wrote
 abbrev pub PlannedAreTheTests : Type 0
@@ -53,15 +53,15 @@ RefusedExactlyIfNonePasses =
 
 -- "the shortest region that passes": a given plan is well formed and passes and, for the rank held by row y, any
 -- row z of that or a higher rank and any length of z: where the response of z with that length, the other rows of
--- these ranks above it and the rows of lower rank below it, is at most the deadline of z, the length of y is no
--- longer, and where it is equal y is not later in the table
+-- these ranks above it and the rows of lower rank below it, is at most the deadline of z, y blocks with no more than
+-- z would with that length, and where with as much y is not later in the table
 pub record Given (tb : Table) (p : Plan) : Type 0 where
   pub well-formed : WellFormed tb p
   pub passes : Passes tb p
   pub shortest :
       (y z q R : ℕ) → y < tb .n → z < tb .n → p .rank z ≤ p .rank y → 1 ≤ q → q ≤ cap tb z →
       Response tb (without (unplaced p (p .rank y)) z) (blocking tb p (p .rank y)) z q R → R ≤ tb .D z →
-      (p .len y ≤ q) × (p .len y ≡ q → y ≤ z)
+      (blocks tb p y ≤ longer tb z q) × (blocks tb p y ≡ longer tb z q → y ≤ z)
 
 abbrev pub ShortestAtEachRank : Type 0
 ShortestAtEachRank =
@@ -77,8 +77,8 @@ pub record Columns (tb : Table) (planned ps : List ℕ) : Type 0 where
 pub record Agrees (xs ps : List ℕ) (planned : List ℕ) : Type 0 where
   pub accepted : Accepted xs ps
   pub times :
-      (out : List ℕ) (r : Result) → tableOf xs .n ≤ length out → TimesAnswer xs ps out r →
-      (r .number ≡ 0) × ((i : ℕ) → i < tableOf xs .n → getD (r .out) i 0 ≡ responseIn planned i)
+      (out : List ℕ) (r : Result) → times-width * tableOf xs .n ≤ length out → TimesAnswer xs ps out r →
+      (r .number ≡ 0) × ((i : ℕ) → i < tableOf xs .n → timeIn (r .out) i ≡ responseIn planned i)
   pub verdict : (r : Result) → VerdictAnswer xs ps r → (r .number ≡ 0) × (r .value ≡ 1)
 
 -- together: there are such columns, and for any of them the three operations agree

@@ -12,6 +12,7 @@ use Rattle.counting.proofs.Sum.{sum-ext, sum-add, sum-delta}
 use Rattle.tables.specs.Table.{Table}
 use Rattle.tables.specs.Plan.{Plan, WellFormed}
 use Rattle.tables.specs.Jobs.{Jobs, Lawful}
+use Rattle.tables.proofs.Plan.{cap-run}
 use Rattle.kernel.specs.Rule.{Pick, job, idle, picked, locked, pick, executed}
 use Rattle.kernel.proofs.Rule as R
 
@@ -29,7 +30,7 @@ Fresh tb p js = (k : ℕ) → k < js .N → locked tb p (js .row k) 0 ≡ false
 
 pub fresh : (tb : Table) (p : Plan) (js : Jobs) → WellFormed tb p → Lawful tb js → Fresh tb p js
 fresh tb p js wf lawful k l =
-    le-ltb (tb .C (js .row k)) (0 + p .len (js .row k)) (omega (arith, wf .len-high (js .row k) (lawful .row k l)))
+    le-ltb (tb .C (js .row k)) (0 + p .len (js .row k)) (omega (arith, cap-run tb (js .row k) (wf .len-high (js .row k) (lawful .row k l))))
 
 given-suc : (b : Bool) (x : ℕ) → given b (suc x) ≡ given b x + given b 1
 given-suc true x = omega arith

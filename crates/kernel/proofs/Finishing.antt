@@ -93,5 +93,5 @@ finish-exists tb p js sound wf k l =
     let e = all-finished tb p js last-release (wf .soon) k l in
     let r = finish-of tb p js k (last-release + sum (js .run) N) (wf .lawful .run-low k l) (omega arith) in
     let each = sum-le (js .run) (λ _. most) N
-    (λ j h. omega (arith, wf .lawful .run-high j h, sound .C (js .row j) (wf .lawful .row j h))) in
+    (λ j h. omega (arith, wf .lawful .run-high j h, sound .row (js .row j) (wf .lawful .row j h) .C)) in
     (r .0, r .1, omega (arith, sum-const most N, mul-le-mul-right most (wf .few)))

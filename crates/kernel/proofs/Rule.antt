@@ -191,7 +191,7 @@ near-job tb js lawful k l a b e c d =
 pub same-job : (tb : Table) (js : Jobs) → Sound tb → Lawful tb js → (k l : ℕ) → k < js .N → l < js .N →
     js .row k ≡ js .row l → js .release k ≡ js .release l → k ≡ l
 same-job tb js sound lawful k l a b e r =
-    let some = sound .T (js .row k) (lawful .row k a) .low in
+    let some = sound .row (js .row k) (lawful .row k a) .T .low in
     near-job tb js lawful k l a b e (omega arith) (omega arith)
 
 module _ (tb : Table) (p : Plan) (js : Jobs) (sound : Sound tb) (wf : WellFormed tb p) (lawful : Lawful tb js)

@@ -8,7 +8,7 @@ use lib.Dec.{ltb}
 use lib.ListN.{length, drop}
 use Rattle.tables.specs.Table.{Table, Sound}
 use Rattle.tables.specs.Plan.{Plan, planOf}
-use Rattle.tables.specs.Refusal.{Clear, Refused, Granted}
+use Rattle.tables.specs.Refusal.{Clear, bare, Refused, Granted}
 use Rattle.tables.specs.Answer.{resultOf}
 use Rattle.tables.specs.declared.Answer.the-variants.{Given, NoPlan}
 use Rattle.tables.proofs.Result.{refuse}
@@ -17,7 +17,7 @@ use Rattle.test.proofs.Load.{sound-positive}
 use Rattle.responses.specs.inside.Asked.{Responses}
 use Rattle.responses.proofs.Same.{response-same}
 use Rattle.choice.specs.Choice.{Chosen, Stopped}
-use Rattle.choice.specs.Answers.{plannedOf, no-plan, PlanGiven}
+use Rattle.choice.specs.Answers.{planned-width, plannedOf, no-plan, PlanGiven}
 use Rattle.choice.proofs.Filled.{Same, same-agree, agree-alike, filled-same, chosen-not-stopped}
 use Rattle.plan.specs.inside.Given.{planned}
 use Rattle.plan.proofs.Written.{written-whole, written-rest, written-at}
@@ -32,7 +32,7 @@ response-plans {tb} p p′ {i} same l r =
     (agree-alike tb p p′ s (same-agree tb p p′ s same) .blocking) r)
 
 pub stopped-refuses : {X : Type 0} {tb : Table} (out : List ℕ) → Stopped tb →
-    Refused (no-plan tb) out (resultOf NoPlan out) ⊎ X
+    Refused bare (no-plan tb) out (resultOf NoPlan out) ⊎ X
 stopped-refuses {X} {tb} out s = inl (refuse (no-plan tb) out NoPlan refl (refl, s) refl)
 
 module _ {tb : Table} (sound : Sound tb) (plan times out : List ℕ) (chosen : Chosen tb (planOf plan)) where
@@ -40,18 +40,18 @@ module _ {tb : Table} (sound : Sound tb) (plan times out : List ℕ) (chosen : C
   chosen-clear place h = chosen-not-stopped tb (planOf plan) (sound-positive tb sound) chosen (h .1)
 
   -- the planned table
-  module _ (fits : 3 * tb .n ≤ length out) (rights : Responses tb (planOf plan) times) where
+  module _ (fits : planned-width * tb .n ≤ length out) (rights : Responses tb (planOf plan) times) where
     abbrev after : List ℕ
-    after = planned plan times (tb .n) ++ drop (3 * tb .n) out
+    after = planned plan times (tb .n) ++ drop (planned-width * tb .n) out
 
     written-same : Same tb (planOf plan) (plannedOf after)
     written-same j l =
-        let e : 3 * j ≡ 3 * j + 0 = omega arith in (
+        let e : planned-width * j ≡ planned-width * j + 0 = omega arith in (
           sym (rw e (written-at plan times (tb .n) out fits j 0 l (omega arith))),
           sym (written-at plan times (tb .n) out fits j 1 l (omega arith)),
         )
 
-    given : PlanGiven tb out (3 * tb .n) after
+    given : PlanGiven tb out (planned-width * tb .n) after
     given =
         record {
           many = refl;
@@ -62,5 +62,5 @@ module _ {tb : Table} (sound : Sound tb) (plan times out : List ℕ) (chosen : C
           rest = written-rest plan times (tb .n) out fits;
         }
 
-    pub plan-given : Granted (PlanGiven tb out) (resultOf (Given (3 * tb .n)) after)
+    pub plan-given : Granted (PlanGiven tb out) (resultOf (Given (planned-width * tb .n)) after)
     plan-given = record { number = refl; place = refl; given = given }

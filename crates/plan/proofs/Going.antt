@@ -15,7 +15,8 @@ use Rattle.counting.proofs.Sum.{without-elim, without-other, count-le}
 use Rattle.marks.specs.inside.Marks.{marked, Whole, Less}
 use Rattle.marks.proofs.Marks.{none, count-less, count-nothing, whole-count}
 use Rattle.tables.specs.Table.{Table, Sound}
-use Rattle.tables.specs.Plan.{Plan, planOf}
+use Rattle.tables.specs.Plan.{Plan, planOf, cap}
+use Rattle.tables.proofs.Plan.{longer-is}
 use Rattle.test.specs.Test.{before, load, busy-side, Response, longest, blocking}
 use Rattle.test.proofs.Load.{Positive}
 use Rattle.test.proofs.Plans.{room, blocking-is, longest-cases}
@@ -85,7 +86,7 @@ module _ (tb : Table) where
 
     pub going-room : (t : ℕ) → 1 ≤ t → b + load before tb (marked rest) t ≤ busy-side tb t
     going-room t h =
-        let out : (j : ℕ) → j < tb .n → rank rest < p .rank j → (marked rest j ≡ false) × (p .len j ≤ tb .C j) =
+        let out : (j : ℕ) → j < tb .n → rank rest < p .rank j → (marked rest j ≡ false) × (p .len j ≤ cap tb j) =
         λ j l lt. (
           by-bool (marked rest j) (λ e. absurd (omega (arith, g .free j e))) (λ e. e),
           g .filled .takes j l lt .shortest .holds .0,
@@ -197,7 +198,7 @@ module _ (tb : Table) where
             filled = filled-placed tb pos p p′ (rank left) y q filled-before none-there takes-y placed-y;
             blocks =
                 let h = blocking-placed tb pos p p′ (rank left) y q filled-before none-there takes-y placed-y in
-                omega (arith, g .blocks, ap (blocking tb p) one-less);
+                omega (arith, g .blocks, ap (blocking tb p) one-less, longer-is tb y q);
             timed =
                 λ j l e.
                 by-eq j y

@@ -47,7 +47,7 @@ fn write(plan: [u32; 64], times: [u32; 32], n: usize, out: &mut [u32])
 
 fn plan_of(rows: [Row; 32], n: usize, out: &mut [u32]) -> Answer
     requires { ⌜ Sound (tableIn rows n) ⌝ }
-    ensures { λ r. ⌜ PlanRest (tableIn rows n) (now (out .entry)) (resultOf r (now (out .exit))) ⌝ }
+    ensures { λ r. ⌜ PlanRest (now (out .entry)) (tableIn rows n) (resultOf r (now (out .exit))) ⌝ }
 {
     if out.len() < PLANNED_WIDTH * n {
         return Answer::Room;

@@ -140,7 +140,7 @@ module _ (tb : Table) (p : Plan) (js : Jobs) (sound : Sound tb) (wf : WellFormed
             place = omega (arith, sound .few);
             job = job;
             left = S.left-head sound wf wfj nx (pl .standing) i il (fm .waits il) first;
-            small = omega (arith, wfj .lawful .run-high c job, sound .C (js .row c) (wfj .lawful .row c job));
+            small = omega (arith, wfj .lawful .run-high c job, sound .row (js .row c) (wfj .lawful .row c job) .C);
             in-time = S.in-time sound wf wfj nx (pl .standing) i il (fm .waits il) first;
           }
 

@@ -60,7 +60,7 @@ fn finish_all(table: &[u32], plan: &[u32], jobs: &[u32], out: &mut [u32])
 // The checks of the plan, the job list and the output, in their order, then the finish ticks.
 fn play_sound(table: &[u32], n: usize, plan: &[u32], jobs: &[u32], out: &mut [u32]) -> Answer
     requires { ⌜ Sound (tableOf (now table)) × (length (now table) ≡ row-width * n) ⌝ }
-    ensures { λ r. ⌜ PlayRest (tableOf (now (table .entry))) (now (plan .entry)) (now (jobs .entry)) (now (out .entry))
+    ensures { λ r. ⌜ PlayRest (now (plan .entry)) (now (jobs .entry)) (now (out .entry)) (tableOf (now (table .entry)))
         (resultOf r (now (out .exit))) ⌝ }
 {
     let form = tables::check_plan(tables::rows_of(table, n), n, plan);

@@ -8,12 +8,13 @@ use native.Mathlib.Omega.{arith}
 use lib.ListN.{length, take}
 use lib.Seq.{take-append-seam}
 use Rattle.counting.proofs.Cases.{by-le, by-eq}
-use Rattle.tables.specs.Refusal.{Check, Clear, Result, Granted, Answered}
+use Rattle.tables.specs.Refusal.{Check, Clear, Result, bare, Granted, Answered}
 use Rattle.tables.specs.Checks.{planned-shape}
 use Rattle.printing.specs.Printed.{planText}
-use Rattle.tables.proofs.Answered.{answered-unique, granted, shape-place, room-place}
+use Rattle.tables.proofs.Answered.{OnePlace, OnePlaces, bare-one, answered-unique, granted, shape-place}
 use Rattle.printing.proofs.Printed.{never-empty}
-use Rattle.printing.specs.Answers.{room-in, FitGiven, FitAnswer, PrintAnswer, PrintGiven, PrintFront}
+use Rattle.printing.specs.Answers.{room-in, fit-checks, FitGiven, FitAnswer, PrintAnswer, PrintGiven}
+use Rattle.printing.specs.Answers.{PrintFront}
 
 -- r with another later content of the output
 abbrev pub leaving : List ℕ → Result → Result
@@ -21,7 +22,7 @@ leaving out r = record { number = r .number; place = r .place; value = r .value;
 
 -- an answer tells of one with another output lent, where what is given there follows
 leave : (cs : List Check) (G H : ℕ → List ℕ → Type 0) (out l : List ℕ) (r : Result) → (Granted G r → H (r .value) l) →
-    Answered cs G out r → Answered cs H l (leaving l r)
+    Answered bare cs G out r → Answered bare cs H l (leaving l r)
 leave [] G H out l r f a = record { number = a .number; place = a .place; given = f a }
 leave (c ∷ cs) G H out l r f a =
     ⊎-elim
@@ -31,13 +32,9 @@ leave (c ∷ cs) G H out l r f a =
 
 -- a refusal has the value 0
 refused-value : (cs : List Check) (G : ℕ → List ℕ → Type 0) (out : List ℕ) (r : Result) → (r .number ≡ 0 → ⊥) →
-    Answered cs G out r → r .value ≡ 0
+    Answered bare cs G out r → r .value ≡ 0
 refused-value [] G out r n a = absurd (n (a .number))
 refused-value (c ∷ cs) G out r n a = ⊎-elim (λ x. x .value) (λ x. refused-value cs G out r n (x .1)) a
-
--- the checks of both
-abbrev checks : List ℕ → ℕ → List Check
-checks planned len = planned-shape planned ∷ room-in (length (planText planned)) len ∷ []
 
 module _ (planned out : List ℕ) where
   -- what fit says is given
@@ -45,7 +42,7 @@ module _ (planned out : List ℕ) where
       Clear (planned-shape planned) × (length (planText planned) ≤ len) × (r .place ≡ 0)
       × (r .value ≡ length (planText planned))
   fit-given {len} {r} a z =
-      let g = granted (checks planned len) (FitGiven planned) [] r refl z a in (
+      let g = granted bare (fit-checks planned len) (FitGiven planned) [] r refl z a in (
         g .0 .0,
         by-le (length (planText planned)) len (λ h. h) (λ h. absurd (g .0 .1 .0 0 (refl, h))),
         g .1 .place,
@@ -56,17 +53,17 @@ module _ (planned out : List ℕ) where
   pub print-refused : {r : Result} → FitAnswer planned (length out) r → (r .number ≡ 0 → ⊥) →
       PrintAnswer planned out (leaving out r)
   print-refused {r} a n =
-      leave (checks planned (length out)) (FitGiven planned) (PrintGiven planned out) [] out r
+      leave (fit-checks planned (length out)) (FitGiven planned) (PrintGiven planned out) [] out r
       (λ g. absurd (n (g .number))) a
 
   -- what print answers is fit's answer
   pub fit-of-print : {r : Result} → PrintAnswer planned out r → FitAnswer planned (length out) (leaving [] r)
   fit-of-print {r} a =
-      leave (checks planned (length out)) (PrintGiven planned out) (FitGiven planned) out [] r
+      leave (fit-checks planned (length out)) (PrintGiven planned out) (FitGiven planned) out [] r
       (λ g. record { many = g .given .many; unlent = refl }) a
 
   none : {r : Result} → PrintAnswer planned out r → (r .number ≡ 0 → ⊥) → r .value ≡ 0
-  none {r} a n = refused-value (checks planned (length out)) (PrintGiven planned out) out r n a
+  none {r} a n = refused-value (fit-checks planned (length out)) (PrintGiven planned out) out r n a
 
   -- the front that is as long as the value
   pub front : {r : Result} → PrintAnswer planned out r → PrintFront planned (length out) (take (r .value) (r .out))
@@ -75,7 +72,7 @@ module _ (planned out : List ℕ) where
         answer = leaving [] r;
         fit = fit-of-print a;
         given = λ z.
-            let g = granted (checks planned (length out)) (PrintGiven planned out) out r refl z a .1 .given in
+            let g = granted bare (fit-checks planned (length out)) (PrintGiven planned out) out r refl z a .1 .given in
             rw (g .whole, g .many, take-append-seam);
         refused = λ n. rw (none a n);
       }
@@ -89,16 +86,22 @@ module _ (planned out : List ℕ) where
       (λ n. omega (arith, none a n))
 
 -- any two answers are equal
+room-in-place : (needed len : ℕ) → OnePlace (room-in needed len)
+room-in-place needed len a b h g = h .0 ∙ sym (g .0)
+
+fit-places : (planned : List ℕ) (len : ℕ) → OnePlaces (fit-checks planned len)
+fit-places planned len = (shape-place planned, (room-in-place (length (planText planned)) len, tt))
+
 pub fit-unique : (planned : List ℕ) (len : ℕ) (r s : Result) → FitAnswer planned len r → FitAnswer planned len s → r ≡ s
 fit-unique planned len r s =
-    answered-unique (checks planned len) (FitGiven planned) [] r s
-    (shape-place planned, ((λ a b h g. h .0 ∙ sym (g .0)), tt))
+    answered-unique bare-one (fit-checks planned len) (FitGiven planned) [] r s
+    (fit-places planned len)
     (λ clear v w l m g h. (g .many ∙ sym (h .many), g .unlent ∙ sym (h .unlent)))
 
 pub print-unique : (planned out : List ℕ) (r s : Result) → PrintAnswer planned out r → PrintAnswer planned out s → r ≡ s
 print-unique planned out r s =
-    answered-unique (checks planned (length out)) (PrintGiven planned out) out r s
-    (shape-place planned, (room-place (length (planText planned)) out, tt))
+    answered-unique bare-one (fit-checks planned (length out)) (PrintGiven planned out) out r s
+    (fit-places planned (length out))
     (λ clear v w l m g h. (g .many ∙ sym (h .many), g .whole ∙ sym (h .whole)))
 
 pub front-unique : (planned : List ℕ) (len : ℕ) (a b : List ℕ) → PrintFront planned len a → PrintFront planned len b →

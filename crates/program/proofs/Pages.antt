@@ -2,20 +2,19 @@
 use Prim.Native.Nat.{ℕ, _*_, _≤_, _<_}
 use mathlib.Core.Path.{_≡_, refl, sym, ap, _∙_, subst}
 use mathlib.Core.Logic.{⊎-elim}
-use mathlib.Core.List.{List, [], _∷_}
+use mathlib.Core.List.{List}
 use native.Mathlib.Omega.{arith}
 use lib.ListN.{length, take}
 use lib.Seq.{length-take-le}
 use Rattle.counting.proofs.Cases.{by-eq}
 use Rattle.tables.specs.Table.{row-width, most-rows, tableOf}
-use Rattle.tables.specs.Refusal.{Result}
-use Rattle.tables.specs.Checks.{Rows, shape, range, room}
-use Rattle.tables.proofs.Answered.{granted}
+use Rattle.tables.specs.Refusal.{Result, bare}
+use Rattle.tables.specs.Checks.{Rows}
+use Rattle.tables.proofs.Answered.{granted, clear-at}
 use Rattle.tables.proofs.Clear.{rows-of-shape}
-use Rattle.test.specs.Answers.{no-busy}
-use Rattle.choice.specs.Answers.{planned-width, no-plan, PlanGiven, PlanAnswer}
+use Rattle.choice.specs.Answers.{planned-width, PlanGiven, plan-checks, PlanAnswer}
 use Rattle.sheet.specs.Sheet.{ticksOf}
-use Rattle.sheet.specs.Answers.{SheetGiven, SheetAnswer}
+use Rattle.sheet.specs.Answers.{SheetGiven, ticks-checks, SheetAnswer}
 use Rattle.sheet.proofs.Fronts.{longest-sheet, length-ticks}
 use Rattle.printing.specs.Printed.{planText, refusedLine}
 use Rattle.printing.specs.Answers.{PrintFront}
@@ -31,16 +30,9 @@ pub plan-rows : (table : List ℕ) (r : Result) → PlanAnswer table (blank plan
     (r .value ≤ length (r .out)) × Rows planned-width (take (r .value) (r .out))
 plan-rows table r a z =
     let tb = tableOf table in
-    let g =
-    granted
-    (shape table ∷ range table ∷ room (planned-width * tb .n) (blank planned-width) ∷ no-busy tb ∷ no-plan tb ∷ [])
-    (PlanGiven tb (blank planned-width))
-    (blank planned-width)
-    r
-    refl
-    z
-    a in
-    let s = rows-of-shape table (g .0 .0) in
+    let cs = plan-checks table (blank planned-width) in
+    let g = granted bare cs (PlanGiven tb (blank planned-width)) (blank planned-width) r refl z a in
+    let s = rows-of-shape table (clear-at 1 cs (g .0)) in
     let w = s .whole in
     let l = s .some in
     let f = s .few in
@@ -64,9 +56,7 @@ sheet-within text r a z =
     (λ x. absurd (not-zero (omega arith) (sym (x .number) ∙ z)))
     (λ x.
     let ticks = ticksOf (x .0) (x .1) in
-    let g =
-    granted (range ticks ∷ room (length ticks) (blank row-width) ∷ []) (SheetGiven ticks (blank row-width))
-    (blank row-width) r
+    let g = granted bare (ticks-checks ticks (blank row-width)) (SheetGiven ticks (blank row-width)) (blank row-width) r
     refl z (x .3) in
     let v = g .1 .given .many in
     let f = x .2 .formed .few in omega (arith, length-ticks (x .0) (x .1)))

@@ -2,8 +2,10 @@
 use Prim.Native.Nat.{ℕ}
 use mathlib.Core.Path.{_≡_, refl}
 use mathlib.Core.List.{List}
+use native.Mathlib.Omega.{arith}
 use Rattle.tables.specs.Table.{Table}
-use Rattle.tables.specs.Plan.{Plan, planOf}
+use Rattle.tables.specs.Plan.{Plan, planOf, longer}
+use Rattle.tables.proofs.Plan.{cap-is}
 use Rattle.test.specs.Test.{Busy, ResponseOf, above, longest, blocking}
 use Rattle.sides.specs.inside.Asks.{asking}
 use Rattle.sides.proofs.Asks.{sound-for, busy-side-of, response-of}
@@ -24,12 +26,12 @@ module _ {a : Table} (tb : Table) (e : a ≡ asking tb) (ps : List ℕ) where
           rank-high = w .rank-high;
           once = w .once;
           len-low = w .len-low;
-          len-high = w .len-high;
+          len-high = λ i l. omega (arith, cap-is tb i, cap-is (asking tb) i, w .len-high i l);
         };
       })
 
   blocking-of : (p : Plan) (r : ℕ) → blocking a p r ≡ blocking tb p r
-  unfolding blocking longest
+  unfolding blocking longest longer
   blocking-of p r = rw e
 
   pub plan-response-of : {i R : ℕ} → ResponseOf a (planOf ps) i R → ResponseOf tb (planOf ps) i R

@@ -10,6 +10,7 @@ use borrow.Author.Tests.{ltb-true, lt-ltb}
 use Rattle.marks.specs.inside.Marks.{marked}
 use Rattle.tables.specs.Table.{Table}
 use Rattle.tables.specs.Plan.{planOf}
+use Rattle.tables.proofs.Plan.{longer-run}
 use Rattle.test.specs.Test.{horizon, Response, ResponseOf, above, blocking}
 use Rattle.sides.specs.inside.Found.{ActiveWithin}
 use Rattle.counting.proofs.Cases.{and-left}
@@ -42,7 +43,7 @@ module _ {tb : Table} {ps : List ℕ} {i set b : ℕ} (p : Placed tb ps i set b)
       let none = blocking-is tb (planOf ps) (planOf ps .rank i) in
       longest-cases tb (planOf ps) (planOf ps .rank i)
       (λ e. omega (arith, blocked, none))
-      (λ j h _ e. omega (arith, blocked, none, p .planned .plan .len-high j h, p .planned .sound .C j h .high))
+      (λ j h _ e. omega (arith, blocked, none, longer-run tb j (p .planned .plan .len-high j h), p .planned .sound .row j h .C .high))
 
   pub active-here : ActiveWithin tb (marked set) b i 1
   active-here =

@@ -3,6 +3,7 @@ use Prim.Native.Nat.{ℕ, _+_, _≤_, _<_}
 use mathlib.Core.Bool.{Bool}
 use native.Mathlib.Omega.{arith}
 use Rattle.tables.specs.Table.{Table}
+use Rattle.tables.specs.Plan.{cap}
 use Rattle.test.specs.Test.{Response}
 use Rattle.responses.proofs.Jobs.{Working}
 use Rattle.choice.specs.Choice.{Fits}
@@ -28,7 +29,7 @@ narrowed-first tb P b i top =
 
 -- the length tried fits, and is the new high; or it does not, and the new low is past it
 module _ {tb : Table} {P : ℕ → Bool} {b i top low high R len L : ℕ} (w : Narrowed tb P b i top low high R)
-    (from : low ≤ len) (to : len < high) (k : Working tb P b i len L) where
+    (from : low ≤ len) (to : len < high) (most : len ≤ cap tb i) (k : Working tb P b i len L) where
   pub narrowed-fits : {S : ℕ} → Fits tb P b i len × Response tb P b i len S → Narrowed tb P b i top low len S
   narrowed-fits f =
       record { some = w .some; order = from; within = omega (arith, w .within); shorter = w .shorter; found = λ _. f }
@@ -39,6 +40,6 @@ module _ {tb : Table} {P : ℕ → Bool} {b i top low high R len L : ℕ} (w : N
         some = omega arith;
         order = omega arith;
         within = w .within;
-        shorter = λ m x y fit. f (fits-longer tb (k .positive) i (k .row) P b m len x (omega arith) (k .most) fit);
+        shorter = λ m x y fit. f (fits-longer tb (k .positive) i (k .row) P b m len x (omega arith) most fit);
         found = w .found;
       }

@@ -10,11 +10,12 @@ use Rattle.marks.specs.inside.Marks.{marked, Next, Less}
 use Rattle.marks.proofs.Marks.{none}
 use Rattle.tables.specs.Table.{Table}
 use Rattle.tables.specs.Plan.{cap}
+use Rattle.tables.proofs.Plan.{longer-is}
 use Rattle.test.specs.Test.{Response}
 use Rattle.choice.specs.Choice.{Fits, Shortest, Takes, NoneFits}
 use Rattle.search.proofs.Lengths.{Narrowed}
 
--- top is the longest length with which a row of worst run c can still take the rank, where the best length so far is
+-- top is the longest length with which a row of most length c can still take the rank, where the best length so far is
 -- `best`, 0 if there is none
 abbrev pub Worth : ℕ → ℕ → ℕ → Type 0
 Worth c best top = (best ≡ 0 → top ≡ c) × (1 ≤ best → top ≡ min c (best - 1))
@@ -45,7 +46,7 @@ seen-first tb U b rest =
 module _ {tb : Table} {U : ℕ → Bool} {b : ℕ} {W : ℕ → Bool} where
   -- row i is tried, and its lengths up to the top are narrowed to one
   module _ {row best time rest i left top low high R : ℕ} (w : Seen tb U b W row best time rest) (n : Next rest i)
-      (d : Less rest i left) (g : i < tb .n) (k : Worth (tb .C i) best top)
+      (d : Less rest i left) (g : i < tb .n) (k : Worth (cap tb i) best top)
       (s : Narrowed tb (without U i) b i top low high R) (one : high ≤ low) where
     still : (j : ℕ) → marked left j ≡ true → (marked rest j ≡ true) × (i < j)
     still j e =
@@ -78,7 +79,7 @@ module _ {tb : Table} {U : ℕ → Bool} {b : ℕ} {W : ℕ → Bool} where
               gone z m
               (λ q.
               let m = no-shorter z l q lo f in
-              let c = ap (tb .C) q in
+              let c = ap (cap tb) q in
               by-le 1 best
               (λ h. (h, omega (arith, k .1 h), λ lt. absurd (omega (arith, w .later h i (n .first .holds)))))
               (λ h. absurd (omega (arith, k .0 (omega arith)))))
@@ -95,7 +96,7 @@ module _ {tb : Table} {U : ℕ → Bool} {b : ℕ} {W : ℕ → Bool} where
             w .among i (n .first .holds),
             record {
               low = lo;
-              holds = (let t = worth-le (tb .C i) best top k in omega arith, s .found hi .0);
+              holds = (let t = worth-le (cap tb i) best top k in omega arith, s .found hi .0);
               least = λ u lo x. no-shorter i u refl lo (x .1);
             },
           );
@@ -137,11 +138,14 @@ module _ {tb : Table} {U : ℕ → Bool} {b : ℕ} {W : ℕ → Bool} where
           row = f .0;
           try = f .1;
           shortest = f .2;
-          least = λ z l g v s. w .least z l g v (all z) (s .low) (s .holds .0) (s .holds .1) .1;
+          least =
+              λ z l g v s.
+              let r = w .least z l g v (all z) (s .low) (s .holds .0) (s .holds .1) in
+              omega (arith, r .1, longer-is tb row best, longer-is tb z l);
           earliest =
-              λ z lt v s.
-              let r = w .least z best (omega (arith, f .0)) v (all z) (s .low) (s .holds .0) (s .holds .1) in
-              absurd (omega (arith, r .2 lt));
+              λ z l lt v s e.
+              let r = w .least z l (omega (arith, f .0)) v (all z) (s .low) (s .holds .0) (s .holds .1) in
+              absurd (omega (arith, r .2 lt, e, longer-is tb row best, longer-is tb z l));
         }
 
     pub seen-none : best ≡ 0 → NoneFits tb U b W

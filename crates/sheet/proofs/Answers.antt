@@ -3,17 +3,17 @@
 use Prim.Native.Nat.{ℕ, _*_, _<_}
 use mathlib.Core.Path.{_≡_, refl, sym, ap, _∙_}
 use mathlib.Core.Logic.{inl, ⊎-elim}
-use mathlib.Core.List.{List, [], _∷_, _++_}
+use mathlib.Core.List.{List, _++_}
 use native.Mathlib.Omega.{arith}
 use lib.ListN.{length, take}
 use lib.Seq.{take-at, take-all, take-take, length-take-le}
 use Rattle.counting.proofs.Cases.{by-le}
 use Rattle.tables.specs.Table.{row-width}
 use Rattle.tables.specs.Refusal.{Result}
-use Rattle.tables.specs.Checks.{Rows, range, room}
-use Rattle.tables.proofs.Answered.{OnePlace, answered-unique, result-same, range-place, room-place}
+use Rattle.tables.specs.Checks.{Rows}
+use Rattle.tables.proofs.Answered.{OnePlace, bare-one, answered-unique, result-same, range-place, room-place}
 use Rattle.sheet.specs.Sheet.{Task, WellFormed, Sheet, LongestPrefix, ticksOf}
-use Rattle.sheet.specs.Answers.{sheet-form, SheetGiven, TicksAnswer, SheetAnswer}
+use Rattle.sheet.specs.Answers.{sheet-form, SheetGiven, ticks-checks, TicksAnswer, SheetAnswer}
 use Rattle.sheet.specs.inside.Read.{ReadsTasks, ReadsSheet}
 use Rattle.sheet.specs.declared.SheetRead.{SheetRead}
 use Rattle.sheet.specs.declared.SheetRead.the-variants as read
@@ -45,7 +45,7 @@ form-place text a b h g =
 
 ticks-unique : (ticks out : List ℕ) (r s : Result) → TicksAnswer ticks out r → TicksAnswer ticks out s → r ≡ s
 ticks-unique ticks out r s =
-    answered-unique (range ticks ∷ room (length ticks) out ∷ []) (SheetGiven ticks out) out r s
+    answered-unique bare-one (ticks-checks ticks out) (SheetGiven ticks out) out r s
     (range-place ticks, (room-place (length ticks) out, tt))
     (λ clear v w l m g h. (g .many ∙ sym (h .many), g .whole ∙ sym (h .whole)))
 

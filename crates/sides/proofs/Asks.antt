@@ -63,7 +63,13 @@ stored-all rows asks many w =
 -- no right side reads a deadline: the table that the asks make serves as that of the rows
 module _ {a : Table} (tb : Table) (e : a ≡ asking tb) where
   pub sound-for : Sound tb → Sound a
-  sound-for s = rw e (record { some = s .some; few = s .few; C = s .C; D = s .C; T = s .T })
+  sound-for s =
+      rw e
+      (record {
+        some = s .some;
+        few = s .few;
+        row = λ i l. let r = s .row i l in record { C = r .C; D = r .C; T = r .T };
+      })
 
   pub run-for : (i q : ℕ) → q ≤ tb .C i → q ≤ a .C i
   run-for i q l = rw e l

@@ -22,10 +22,10 @@ sum-small f (suc n) b h = omega (arith, sum-small f n b (λ j l. h j (omega arit
 module _ (tb : Table) (sound : Sound tb) (t : ℕ) (le : t ≤ horizon + 1) where
   pub part-small : (j : ℕ) → j < tb .n → before t (tb .T j) * tb .C j ≤ most-asked
   part-small j l =
-      let T = sound .T j l in
+      let T = sound .row j l .T in
       mul-le-mul {n₂ = 1000001} {m₂ = 1000000}
       (let u = up-le t t (T .low) (let m = mul-le-mul-left t (T .low) in omega arith) in omega arith)
-      (sound .C j l .high)
+      (sound .row j l .C .high)
 
   pub load-small : (P : ℕ → Bool) → load before tb P t ≤ 32 * most-asked
   unfolding load

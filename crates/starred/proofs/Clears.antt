@@ -7,7 +7,7 @@ use lib.Dec.{eqb}
 use lib.ListN.{length, getD}
 use borrow.Author.Tests.{eq-eqb}
 use Rattle.tables.specs.Table.{Table, tableOf, row-width, most-rows, most}
-use Rattle.tables.specs.Plan.{planOf, plan-width}
+use Rattle.tables.specs.Plan.{planOf, plan-width, cap}
 use Rattle.tables.specs.Jobs.{jobsOf, job-width, most-jobs, last-release}
 use Rattle.tables.specs.Refusal.{Clear}
 use Rattle.tables.specs.Checks.{shape, range, plan-form, jobs-shape, job-rules}
@@ -33,7 +33,7 @@ plan-test tb ps =
     so₄ (equal (length ps) (plan-width * n))
     (each n (λ i. both (at-most 1 (rank i)) (at-most (rank i) n)))
     (each n (λ i. each n (λ j. when (eqb (rank i) (rank j)) (eq-eqb (rank i) (rank j)) (equal i j))))
-    (each n (λ i. both (at-most 1 (len i)) (at-most (len i) (tb .C i))))
+    (each n (λ i. both (at-most 1 (len i)) (at-most (len i) (cap tb i))))
     (λ whole ranks once lens. clear-of-plan tb ps whole
     (record {
       rank-low = λ i l. ranks i l .0;

@@ -11,18 +11,21 @@ use Rattle.counting.specs.Up.{up}
 use Rattle.counting.specs.Sum.{sum, largest, count}
 use Rattle.counting.proofs.Search.{first, all}
 use Rattle.tables.specs.Table.{Table, tableOf}
-use Rattle.tables.specs.Plan.{Plan, planOf}
+use Rattle.tables.specs.Plan.{Plan, planOf, cap, longer}
 use Rattle.tables.specs.Jobs.{Jobs, jobsOf}
 use Rattle.tables.proofs.Clear.{sound-of-clear, plan-of-clear}
 use Rattle.tables.specs.Refusal.{Granted}
+use Rattle.tables.proofs.Answered.{_past_}
 use Rattle.test.specs.Test.{load, busy-side, active-side, start-side, above, longest, blocking, ResponseOf}
+use Rattle.test.specs.Answers.{times-width, timeIn}
 use Rattle.test.proofs.Load.{sound-positive}
 use Rattle.test.proofs.Plans.{plan-bounded}
 use Rattle.choice.proofs.Filled.{chosen-not-stopped}
 use Rattle.choice.specs.Answers.{plannedOf, responseIn, planned-width}
 use Rattle.kernel.specs.Rule.{one-of, pick, executed, Finishes}
 use Rattle.starred.specs.Figures.{Figure, plans, refuses, timed, plays, takes, shortest, Right, AllRight, figures}
-use Rattle.starred.specs.Figures.{further, StarredFigures, wholly}
+use Rattle.starred.specs.Figures.{further, StarredFigures, wholly, second-planned, third-planned, three-planned}
+use Rattle.starred.specs.Figures.{overloaded-refused, urgent-planned, thirds-planned, over-refused}
 use Rattle.starred.proofs.Tests.{Test, equal, less, both, so₃, so₅, either, each}
 use Rattle.starred.proofs.Seen.{look, seen, busy, passes-h, overloaded, period, start, value, taken, responds}
 use Rattle.starred.proofs.Trials.{known, passing, short, comes-after, takes-test, none-test, filled-test}
@@ -45,11 +48,6 @@ no-rest out ys m a b = ends ys b ∙ sym (ends out (a ∙ b))
   where
     ends : (zs : List ℕ) → length zs ≡ m → drop m zs ≡ []
     ends zs c = rw (← c) (drop-length zs)
-
-infixr 1 _past_
--- past a check that does not hit
-_past_ : {A B X : Type 0} → A → B → X ⊎ (A × B)
-a past b = inr (a, b)
 
 -- what is given, all of the output written
 all-given : {Given : ℕ → List ℕ → Type 0} {ys : List ℕ} → Given (length ys) ys → Granted Given (wholly ys)
@@ -92,8 +90,8 @@ timed-test : (xs ps ys : List ℕ) → Test (Right (timed xs ps ys))
 timed-test xs ps ys =
     let tb = tableOf xs in
     let p = planOf ps in
-    so₅ (table-test xs) (busy tb) (plan-test tb ps) (equal (length ys) (tb .n))
-    (each (tb .n) (λ i. response-test tb p i (getD ys i 0)))
+    so₅ (table-test xs) (busy tb) (plan-test tb ps) (equal (length ys) (times-width * tb .n))
+    (each (tb .n) (λ i. response-test tb p i (timeIn ys i)))
     (λ clear busy formed whole responses out same.
     let sound = sound-of-clear xs (clear .0) (clear .1) in
     let wf = plan-of-clear tb ps formed .1 in
@@ -101,9 +99,9 @@ timed-test xs ps ys =
     past all-given (record {
       many = whole;
       responses = responses;
-      bounded = λ i l. plan-bounded tb sound busy p wf i l (getD ys i 0) (responses i l);
+      bounded = λ i l. plan-bounded tb sound busy p wf i l (timeIn ys i) (responses i l);
       whole = sym same;
-      rest = no-rest out ys (tb .n) same whole;
+      rest = no-rest out ys (times-width * tb .n) same whole;
     }))
 
 plays-test : (xs ps js ys : List ℕ) → Test (Right (plays xs ps js ys))
@@ -141,11 +139,47 @@ all-figures : StarredFigures × AllRight further
 unfolding figures further every test-of plans-test refuses-test timed-test plays-test response-test finish-test look
     seen busy passes-h overloaded period start value taken responds known passing short shortest-test comes-after
     takes-test none-test filled-test stopped-test table-test plan-test jobs-test first all up sum largest count load
-    busy-side active-side start-side longest blocking one-of pick executed
+    busy-side active-side start-side cap longer longest blocking one-of pick executed
 all-figures = (every figures .shows refl, every further .shows refl)
 
 pub starred-figures : StarredFigures
 starred-figures = all-figures .0
 
-pub further-figures : AllRight further
-further-figures = all-figures .1
+-- a figure of a list
+abbrev Among : Figure → List Figure → Type 0
+Among f [] = ⊥
+Among f (g ∷ gs) = (f ≡ g) ⊎ Among f gs
+
+-- of a list of right figures each is right
+right-among : (f : Figure) (fs : List Figure) → AllRight fs → Among f fs → Right f
+right-among f [] all h = absurd h
+right-among f (g ∷ gs) all h = ⊎-elim (λ e. rw e (all .0)) (right-among f gs (all .1)) h
+
+-- the figures that have a name
+pub second-right : Right second-planned
+unfolding figures
+second-right = right-among second-planned figures starred-figures (search (inl, inr) depth 20)
+
+pub third-right : Right third-planned
+unfolding figures
+third-right = right-among third-planned figures starred-figures (search (inl, inr) depth 20)
+
+pub three-right : Right three-planned
+unfolding figures
+three-right = right-among three-planned figures starred-figures (search (inl, inr) depth 20)
+
+pub overloaded-right : Right overloaded-refused
+unfolding figures
+overloaded-right = right-among overloaded-refused figures starred-figures (search (inl, inr) depth 20)
+
+pub urgent-right : Right urgent-planned
+unfolding further
+urgent-right = right-among urgent-planned further (all-figures .1) (search (inl, inr) depth 20)
+
+pub thirds-right : Right thirds-planned
+unfolding further
+thirds-right = right-among thirds-planned further (all-figures .1) (search (inl, inr) depth 20)
+
+pub over-right : Right over-refused
+unfolding further
+over-right = right-among over-refused further (all-figures .1) (search (inl, inr) depth 20)

@@ -1,6 +1,6 @@
 -- Tests of the choice on small tables: trials, shortest lengths, the row that takes a rank, ranks filled.
 use Prim.Native.Nat.{ℕ, suc, _-_, _≤_, _<_}
-use mathlib.Core.Path.{_≡_}
+use mathlib.Core.Path.{_≡_, ap}
 use mathlib.Core.Bool.{Bool, true}
 use native.Mathlib.Omega.{arith}
 use lib.Dec.{eqb, leb, ltb}
@@ -9,7 +9,7 @@ use Rattle.counting.specs.Sum.{without, count}
 use Rattle.counting.proofs.Cases.{by-le, not-both}
 use Rattle.counting.proofs.Search.{first, first-ge, first-before, first-found, first-within}
 use Rattle.tables.specs.Table.{Table}
-use Rattle.tables.specs.Plan.{Plan}
+use Rattle.tables.specs.Plan.{Plan, cap, longer}
 use Rattle.test.specs.Test.{Response, blocking}
 use Rattle.test.proofs.Response.{response-unique}
 use Rattle.choice.specs.Choice.{unplaced, Fits, Shortest, TakesRank, NoneFitsRank, Filled, Stopped}
@@ -26,29 +26,29 @@ module _ (tb : Table) (p : Plan) (r z : ℕ) where
   abbrev worth : ℕ → ℕ
   worth q = value tb U B z q
 
-  -- the response of each length from 1 to C is known
+  -- the response of each length that the row may have is known
   abbrev Known : Type 0
-  Known = (q : ℕ) → 1 ≤ q → q ≤ tb .C z → Response tb U B z q (worth q)
+  Known = (q : ℕ) → 1 ≤ q → q ≤ cap tb z → Response tb U B z q (worth q)
 
   unfoldable pub known : Test Known
-  known = so (each (tb .C z) (λ l. responds tb U B z (suc l) (worth (suc l))))
+  known = so (each (cap tb z) (λ l. responds tb U B z (suc l) (worth (suc l))))
       (λ s q a h. let e : suc (q - 1) ≡ q = omega arith in rw e at (s (q - 1) (omega arith)))
 
   unfoldable pub passing : ℕ → Bool
   passing q = leb (worth q) (tb .D z)
 
-  -- the first passing length, C + 1 if there is none
+  -- the first passing length, one more than the row may have if there is none
   unfoldable pub short : ℕ
-  short = first passing (tb .C z) 1
+  short = first passing (cap tb z) 1
 
   module _ (k : Known) where
-    fits-passing : (q : ℕ) → 1 ≤ q → q ≤ tb .C z → Fits tb U B z q → passing q ≡ true
+    fits-passing : (q : ℕ) → 1 ≤ q → q ≤ cap tb z → Fits tb U B z q → passing q ≡ true
     unfolding passing
     fits-passing q a h f =
         le-leb (worth q) (tb .D z)
         (omega (arith, f .within, response-unique tb U B z q (f .R) (worth q) (f .response) (k q a h)))
 
-    passing-fits : (q : ℕ) → 1 ≤ q → q ≤ tb .C z → passing q ≡ true → Fits tb U B z q
+    passing-fits : (q : ℕ) → 1 ≤ q → q ≤ cap tb z → passing q ≡ true → Fits tb U B z q
     unfolding passing
     passing-fits q a h e = record { R = worth q; response = k q a h; within = leb-true (worth q) (tb .D z) e }
 
@@ -57,31 +57,31 @@ module _ (tb : Table) (p : Plan) (r z : ℕ) where
     unfolding short
     short-is q s =
         let h = s .holds .0 in
-        let f = first-found passing (tb .C z) 1 q (s .low) (omega arith) (fits-passing q (s .low) h (s .holds .1)) in
-        let g = first-ge passing (tb .C z) 1 in
+        let f = first-found passing (cap tb z) 1 q (s .low) (omega arith) (fits-passing q (s .low) h (s .holds .1)) in
+        let g = first-ge passing (cap tb z) 1 in
         omega (arith, s .least short g (omega arith, passing-fits short g (omega arith) (f .0)), f .1)
 
-    pub short-shortest : (q : ℕ) → short ≡ q → q ≤ tb .C z → Shortest tb (unplaced p r) B z q
+    pub short-shortest : (q : ℕ) → short ≡ q → q ≤ cap tb z → Shortest tb (unplaced p r) B z q
     unfolding short
     short-shortest q e h =
-        let g = first-ge passing (tb .C z) 1 in
+        let g = first-ge passing (cap tb z) 1 in
         let s : Shortest tb (unplaced p r) B z short =
         record {
           low = g;
-          holds = (omega arith, passing-fits short g (omega arith) (first-within passing (tb .C z) 1 (omega arith)));
+          holds = (omega arith, passing-fits short g (omega arith) (first-within passing (cap tb z) 1 (omega arith)));
           least = λ l a f. by-le short l (λ x. x)
-              (λ x. not-both (passing l) (first-before passing (tb .C z) 1 l a x) (fits-passing l a (f .0) (f .1)));
+              (λ x. not-both (passing l) (first-before passing (cap tb z) 1 l a x) (fits-passing l a (f .0) (f .1)));
         } in
         rw e at s
 
-    pub none-fit : tb .C z < short → (q : ℕ) → 1 ≤ q → q ≤ tb .C z → Fits tb U B z q → ⊥
+    pub none-fit : cap tb z < short → (q : ℕ) → 1 ≤ q → q ≤ cap tb z → Fits tb U B z q → ⊥
     unfolding short
-    none-fit h q a g f = not-both (passing q) (first-before passing (tb .C z) 1 q a (omega arith))
+    none-fit h q a g f = not-both (passing q) (first-before passing (cap tb z) 1 q a (omega arith))
         (fits-passing q a g f)
 
   -- the shortest passing length is q
   unfoldable pub shortest-test : (q : ℕ) → Test (Shortest tb (unplaced p r) B z q)
-  shortest-test q = so₃ known (equal short q) (at-most q (tb .C z)) (λ k. short-shortest k q)
+  shortest-test q = so₃ known (equal short q) (at-most q (cap tb z)) (λ k. short-shortest k q)
 
 module _ (tb : Table) (p : Plan) (r : ℕ) where
   -- at each row not placed
@@ -91,10 +91,13 @@ module _ (tb : Table) (p : Plan) (r : ℕ) where
 
   -- row z does not come before row y with q
   unfoldable pub comes-after : (y q z : ℕ) →
-      Test (short tb p r z ≤ tb .C z → (q ≤ short tb p r z) × (z < y → q < short tb p r z))
+      Test (short tb p r z ≤ cap tb z → let m = longer tb z (short tb p r z) in
+      (longer tb y q ≤ m) × (z < y → longer tb y q < m))
   comes-after y q z =
-      let m = short tb p r z in
-      when (leb m (tb .C z)) (le-leb m (tb .C z)) (both (at-most q m) (when (ltb z y) (lt-ltb z y) (less q m)))
+      let l = short tb p r z in
+      let m = longer tb z l in
+      when (leb l (cap tb z)) (le-leb l (cap tb z))
+      (both (at-most (longer tb y q) m) (when (ltb z y) (lt-ltb z y) (less (longer tb y q) m)))
 
   unfoldable pub takes-test : (y q : ℕ) → Test (TakesRank tb p r y q)
   takes-test y q =
@@ -102,23 +105,26 @@ module _ (tb : Table) (p : Plan) (r : ℕ) where
       (each-unplaced (comes-after y q))
       (λ known row try shortest after.
       let is : (z m : ℕ) → z < tb .n → unplaced p r z ≡ true → Shortest tb (unplaced p r) (blocking tb p r) z m →
-      (m ≡ short tb p r z) × (m ≤ tb .C z) =
+      (m ≡ short tb p r z) × (m ≤ cap tb z) =
       λ z m g v x. (short-is tb p r z (known z g v) m x, x .holds .0) in
       record {
         row = row;
         try = try;
         shortest = shortest;
-        least = λ z m g v x. let e = is z m g v x in omega (arith, after z g v (omega arith) .0);
+        least =
+            λ z m g v x.
+            let e = is z m g v x in
+            omega (arith, after z g v (omega arith) .0, ap (longer tb z) (e .0));
         earliest =
-            λ z h v x.
+            λ z m h v x same.
             let g : z < tb .n = omega arith in
-            let e = is z q g v x in
-            omega (arith, after z g v (omega arith) .1 h);
+            let e = is z m g v x in
+            omega (arith, after z g v (omega arith) .1 h, ap (longer tb z) (e .0));
       })
 
   unfoldable pub none-test : Test (NoneFitsRank tb p r)
   none-test =
-      so₂ (each-unplaced (known tb p r)) (each-unplaced (λ z. less (tb .C z) (short tb p r z)))
+      so₂ (each-unplaced (known tb p r)) (each-unplaced (λ z. less (cap tb z) (short tb p r z)))
       (λ known long z q l u. none-fit tb p r z (known z l u) (long z l u) q)
 
 -- the ranks greater than r are filled as the plan says

@@ -10,7 +10,7 @@ use Rattle.tables.specs.Refusal.{Result}
 use Rattle.test.specs.Test.{above, blocking, Finish}
 use Rattle.test.specs.Answers.{TimesAnswer}
 use Rattle.choice.specs.Choice.{unplaced, Shortest}
-use Rattle.choice.specs.Answers.{PlanAnswer}
+use Rattle.choice.specs.Answers.{PlanAnswer, planned-width}
 use Rattle.kernel.specs.Answers.{PlayAnswer}
 
 pub data Figure : Type 0 where
@@ -35,7 +35,7 @@ wholly ys = record { number = 0; place = 0; value = length ys; out = ys }
 abbrev pub Right : Figure → Type 0
 Right (plans xs ys) = (out : List ℕ) → length out ≡ length ys → PlanAnswer xs out (wholly ys)
 Right (refuses xs number place) =
-    (out : List ℕ) → length xs ≤ length out → PlanAnswer xs out
+    (out : List ℕ) → planned-width * tableOf xs .n ≤ length out → PlanAnswer xs out
     (record { number = number; place = place; value = 0; out = out })
 Right (timed xs ps ys) = (out : List ℕ) → length out ≡ length ys → TimesAnswer xs ps out (wholly ys)
 Right (plays xs ps js ys) = (out : List ℕ) → length out ≡ length ys → PlayAnswer xs ps js out (wholly ys)
@@ -71,28 +71,41 @@ overloaded-table = 2 ∷ 3 ∷ 3 ∷ 2 ∷ 3 ∷ 3 ∷ []
 abbrev pub three-rows : List ℕ
 three-rows = 1 ∷ 4 ∷ 4 ∷ 1 ∷ 6 ∷ 6 ∷ 4 ∷ 12 ∷ 12 ∷ []
 
+-- the figures that the wrong versions of plan are held to have names
+abbrev pub second-planned : Figure
+second-planned = plans second-table (1 ∷ 1 ∷ 3 ∷ 2 ∷ 2 ∷ 7 ∷ [])
+
+abbrev pub third-planned : Figure
+third-planned = plans third-table (1 ∷ 1 ∷ 4 ∷ 2 ∷ 3 ∷ 6 ∷ [])
+
+abbrev pub three-planned : Figure
+three-planned = plans three-rows (2 ∷ 1 ∷ 2 ∷ 1 ∷ 1 ∷ 1 ∷ 3 ∷ 1 ∷ 8 ∷ [])
+
+abbrev pub overloaded-refused : Figure
+overloaded-refused = refuses overloaded-table 4 0
+
 unfoldable pub figures : List Figure
 figures =
     plans first-table (1 ∷ 1 ∷ 1 ∷ [])
     -- the second table, with what the first and the second job of its second row take
-    ∷ plans second-table (1 ∷ 1 ∷ 3 ∷ 2 ∷ 2 ∷ 7 ∷ [])
+    ∷ second-planned
     ∷ takes second-table second-plan 1 0 6
     ∷ takes second-table second-plan 1 1 7
     -- the second table played under its plan
     ∷ plays second-table second-plan (1 ∷ 0 ∷ 4 ∷ 0 ∷ 3 ∷ 2 ∷ []) (4 ∷ 6 ∷ [])
     ∷ plays second-table second-plan (1 ∷ 0 ∷ 4 ∷ 0 ∷ 2 ∷ 2 ∷ []) (6 ∷ 4 ∷ [])
     ∷ plays second-table second-plan (1 ∷ 0 ∷ 3 ∷ 0 ∷ 3 ∷ 2 ∷ []) (3 ∷ 5 ∷ [])
-    ∷ plans third-table (1 ∷ 1 ∷ 4 ∷ 2 ∷ 3 ∷ 6 ∷ [])
+    ∷ third-planned
     ∷ refuses (2 ∷ 5 ∷ 5 ∷ 4 ∷ 5 ∷ 7 ∷ []) 5 0
     -- "The tie at rank 2": there the shortest lengths of rows 0 and 1 are equal, and the earlier row takes the rank
-    ∷ plans three-rows (2 ∷ 1 ∷ 2 ∷ 1 ∷ 1 ∷ 1 ∷ 3 ∷ 1 ∷ 8 ∷ [])
+    ∷ three-planned
     ∷ shortest three-rows (2 ∷ 1 ∷ 1 ∷ 1 ∷ 3 ∷ 1 ∷ []) 2 0 1
     ∷ shortest three-rows (2 ∷ 1 ∷ 1 ∷ 1 ∷ 3 ∷ 1 ∷ []) 2 1 1
     -- the same table under ranks in table order; "full preemption" is a length of 1 in every row
     ∷ timed three-rows (1 ∷ 1 ∷ 2 ∷ 1 ∷ 3 ∷ 3 ∷ []) (3 ∷ 4 ∷ 6 ∷ [])
     ∷ timed three-rows (1 ∷ 1 ∷ 2 ∷ 1 ∷ 3 ∷ 4 ∷ []) (4 ∷ 6 ∷ 6 ∷ [])
     ∷ timed three-rows (1 ∷ 1 ∷ 2 ∷ 1 ∷ 3 ∷ 1 ∷ []) (1 ∷ 2 ∷ 8 ∷ [])
-    ∷ refuses overloaded-table 4 0
+    ∷ overloaded-refused
     ∷ refuses (5 ∷ 4 ∷ 9 ∷ []) 5 0
     ∷ []
 
@@ -108,12 +121,17 @@ three-thirds = 1 ∷ 3 ∷ 3 ∷ 1 ∷ 3 ∷ 3 ∷ 1 ∷ 3 ∷ 3 ∷ []
 abbrev pub one-tick-over : List ℕ
 one-tick-over = 500000 ∷ 1000000 ∷ 1000000 ∷ 500001 ∷ 1000000 ∷ 1000000 ∷ []
 
+abbrev pub urgent-planned : Figure
+urgent-planned = plans urgent-first (1 ∷ 1 ∷ 1 ∷ 3 ∷ 1 ∷ 3 ∷ 2 ∷ 1 ∷ 2 ∷ [])
+
+abbrev pub thirds-planned : Figure
+thirds-planned = plans three-thirds (3 ∷ 1 ∷ 3 ∷ 2 ∷ 1 ∷ 2 ∷ 1 ∷ 1 ∷ 1 ∷ [])
+
+abbrev pub over-refused : Figure
+over-refused = refuses one-tick-over 4 0
+
 unfoldable pub further : List Figure
-further =
-    plans urgent-first (1 ∷ 1 ∷ 1 ∷ 3 ∷ 1 ∷ 3 ∷ 2 ∷ 1 ∷ 2 ∷ [])
-    ∷ plans three-thirds (3 ∷ 1 ∷ 3 ∷ 2 ∷ 1 ∷ 2 ∷ 1 ∷ 1 ∷ 1 ∷ [])
-    ∷ refuses one-tick-over 4 0
-    ∷ []
+further = urgent-planned ∷ thirds-planned ∷ over-refused ∷ []
 
 -- the one statement
 abbrev pub StarredFigures : Type 0

@@ -2,18 +2,18 @@
 -- the given answer is settled; and the number 0 is that of a given answer.
 use Prim.Native.Nat.{ℕ, _+_, _-_, _≤_}
 use mathlib.Core.Path.{_≡_, sym, _∙_}
-use mathlib.Core.Bool.{Bool, true, _&&_}
-use mathlib.Core.Logic.{_⊎_, ⊎-elim}
+use mathlib.Core.Bool.{Bool, true, cond, _&&_}
+use mathlib.Core.Logic.{_⊎_, inr, ⊎-elim}
 use mathlib.Core.List.{List, [], _∷_}
 use native.Mathlib.Omega.{arith}
-use lib.Dec.{leb}
+use lib.Dec.{leb, eqb}
 use lib.ListN.{getD, drop}
 use lib.Seq.{getD-drop}
 use borrow.Author.Tests.{leb-true}
-use Rattle.counting.proofs.Cases.{and-left, and-right}
+use Rattle.counting.proofs.Cases.{by-bool, and-left, and-right}
 use Rattle.counting.proofs.Least.{least-unique}
 use Rattle.tables.specs.Table.{Table}
-use Rattle.tables.specs.Refusal.{Check, Clear, Result, Refused, Granted, Answered}
+use Rattle.tables.specs.Refusal.{Check, Clear, Outcome, bare, Refused, Granted, Answered}
 use Rattle.tables.specs.Checks.{shape, range, plan-form, jobs-shape, job-rules, room}
 
 -- the check hits at one place at most
@@ -30,54 +30,90 @@ abbrev pub AllClear : List Check → Type 0
 AllClear [] = Unit
 AllClear (c ∷ cs) = Clear c × AllClear cs
 
--- one value and one later content of the output are given
-abbrev pub OneGiven : (ℕ → List ℕ → Type 0) → Type 0
-OneGiven Given = (v w : ℕ) (l m : List ℕ) → Given v l → Given w m → (v ≡ w) × (l ≡ m)
+-- one value at most is carried by a refusal of one number at one place
+abbrev pub OneCarried : {Value : Type 0} → (ℕ → ℕ → Value → Type 0) → Type 0
+OneCarried {Value} Carried = (number place : ℕ) (v w : Value) → Carried number place v → Carried number place w → v ≡ w
 
-pub result-same : (r s : Result) → r .number ≡ s .number → r .place ≡ s .place → r .value ≡ s .value → r .out ≡ s .out →
-    r ≡ s
-result-same r s n p v o = λ i. record { number = n i; place = p i; value = v i; out = o i }
+pub bare-one : OneCarried bare
+bare-one number place v w a b = a ∙ sym b
 
-refused-same : (c : Check) (out : List ℕ) (r s : Result) → OnePlace c → Refused c out r → Refused c out s → r ≡ s
-refused-same c out r s one a b =
-    result-same r s (a .number ∙ sym (b .number)) (one (r .place) (s .place) (a .place) (b .place))
-    (a .value ∙ sym (b .value))
-    (a .unwritten ∙ sym (b .unwritten))
+-- one value and one later content of what was lent are given
+abbrev pub OneGiven : {Value Lent : Type 0} → (Value → Lent → Type 0) → Type 0
+OneGiven {Value} {Lent} Given = (v w : Value) (l m : Lent) → Given v l → Given w m → (v ≡ w) × (l ≡ m)
 
-pub answered-unique : (cs : List Check) (Given : ℕ → List ℕ → Type 0) (out : List ℕ) (r s : Result) →
-    OnePlaces cs → (AllClear cs → OneGiven Given) → Answered cs Given out r → Answered cs Given out s → r ≡ s
-answered-unique [] Given out r s one given a b =
-    let g = given tt (r .value) (s .value) (r .out) (s .out) (a .given) (b .given) in
-    result-same r s (a .number ∙ sym (b .number)) (a .place ∙ sym (b .place)) (g .0) (g .1)
-answered-unique (c ∷ cs) Given out r s one given a b =
-    ⊎-elim
-    (λ x. ⊎-elim (λ y. refused-same c out r s (one .0) x y) (λ y. absurd (y .0 (r .place) (x .place))) b)
-    (λ x. ⊎-elim
-    (λ y. absurd (x .0 (s .place) (y .place)))
-    (λ y. answered-unique cs Given out r s (one .1) (λ clear. given (x .0, clear)) (x .1) (y .1))
-    b)
-    a
+module _ {Value Lent : Type 0} where
+  pub result-same : (r s : Outcome Value Lent) → r .number ≡ s .number → r .place ≡ s .place → r .value ≡ s .value →
+      r .out ≡ s .out → r ≡ s
+  result-same r s n p v o = λ i. record { number = n i; place = p i; value = v i; out = o i }
+
+  module _ {Carried : ℕ → ℕ → Value → Type 0} (carried : OneCarried Carried) where
+    refused-same : (c : Check) (lent : Lent) (r s : Outcome Value Lent) → OnePlace c → Refused Carried c lent r →
+        Refused Carried c lent s → r ≡ s
+    refused-same c lent r s one a b =
+        let e = one (r .place) (s .place) (a .place) (b .place) in
+        result-same r s (a .number ∙ sym (b .number)) e
+        (carried (c .number) (r .place) (r .value) (s .value) (a .value) (rw e (b .value)))
+        (a .unwritten ∙ sym (b .unwritten))
+
+    pub answered-unique : (cs : List Check) (Given : Value → Lent → Type 0) (lent : Lent) (r s : Outcome Value Lent) →
+        OnePlaces cs → (AllClear cs → OneGiven Given) → Answered Carried cs Given lent r →
+        Answered Carried cs Given lent s → r ≡ s
+    answered-unique [] Given lent r s one given a b =
+        let g = given tt (r .value) (s .value) (r .out) (s .out) (a .given) (b .given) in
+        result-same r s (a .number ∙ sym (b .number)) (a .place ∙ sym (b .place)) (g .0) (g .1)
+    answered-unique (c ∷ cs) Given lent r s one given a b =
+        ⊎-elim
+        (λ x. ⊎-elim (λ y. refused-same c lent r s (one .0) x y) (λ y. absurd (y .0 (r .place) (x .place))) b)
+        (λ x. ⊎-elim
+        (λ y. absurd (x .0 (s .place) (y .place)))
+        (λ y. answered-unique cs Given lent r s (one .1) (λ clear. given (x .0, clear)) (x .1) (y .1))
+        b)
+        a
 
 -- no check of the list has the number 0
 abbrev pub numbered : List Check → Bool
 numbered [] = true
 numbered (c ∷ cs) = leb 1 (c .number) && numbered cs
 
--- so an answer with the number 0 is given, and no check hits
-pub granted : (cs : List Check) (Given : ℕ → List ℕ → Type 0) (out : List ℕ) (r : Result) → numbered cs ≡ true →
-    r .number ≡ 0 →
-    Answered cs Given out r → AllClear cs × Granted Given r
-granted [] Given out r some zero a = (tt, a)
-granted (c ∷ cs) Given out r some zero a =
-    let first = leb 1 (c .number) in
-    ⊎-elim
-    (λ x. absurd (omega (arith, x .number, leb-true 1 (c .number) (and-left first (numbered cs) some))))
-    (λ x. let g = granted cs Given out r (and-right first (numbered cs) some) zero (x .1) in ((x .0, g .0), g .1))
-    a
+-- the first check of the list that has the number does not hit, where there is one
+abbrev pub ClearAt : ℕ → List Check → Type 0
+ClearAt n [] = Unit
+ClearAt n (c ∷ cs) = cond (eqb n (c .number)) (Clear c) (ClearAt n cs)
+
+-- of a list of which no check hits, the one that has the number
+pub clear-at : (n : ℕ) (cs : List Check) → AllClear cs → ClearAt n cs
+clear-at n [] all = tt
+clear-at n (c ∷ cs) all =
+    by-bool (eqb n (c .number)) (λ e. rw e (all .0)) (λ e. rw e (clear-at n cs (all .1)))
+
+module _ {Value Lent : Type 0} (Carried : ℕ → ℕ → Value → Type 0) where
+  -- an answer with the number 0 is given, and no check hits
+  pub granted : (cs : List Check) (Given : Value → Lent → Type 0) (lent : Lent) (r : Outcome Value Lent) →
+      numbered cs ≡ true → r .number ≡ 0 → Answered Carried cs Given lent r → AllClear cs × Granted Given r
+  granted [] Given lent r some zero a = (tt, a)
+  granted (c ∷ cs) Given lent r some zero a =
+      let first = leb 1 (c .number) in
+      ⊎-elim
+      (λ x. absurd (omega (arith, x .number, leb-true 1 (c .number) (and-left first (numbered cs) some))))
+      (λ x. let g = granted cs Given lent r (and-right first (numbered cs) some) zero (x .1) in ((x .0, g .0), g .1))
+      a
+
+  -- where no check hits, what is given is the answer
+  pub given-answer : (cs : List Check) {Given : Value → Lent → Type 0} (lent : Lent) {r : Outcome Value Lent} →
+      AllClear cs → Granted Given r → Answered Carried cs Given lent r
+  given-answer [] lent all g = g
+  given-answer (c ∷ cs) lent all g = inr (all .0, given-answer cs lent (all .1) g)
+
+infixr 1 _past_
+-- past a check that does not hit, what answers behind it
+pub _past_ : {R C X : Type 0} → C → X → R ⊎ (C × X)
+clear past rest = inr (clear, rest)
 
 -- a check that does not hit leaves the answer to those after it
-pub beyond : {c : Check} {out : List ℕ} {r : Result} {A : Type 0} → Clear c → Refused c out r ⊎ (Clear c × A) → A
-beyond {r = r} clear = ⊎-elim (λ x. absurd (clear (r .place) (x .place))) (λ x. x .1)
+module _ {Value Lent : Type 0} {Carried : ℕ → ℕ → Value → Type 0} where
+  pub beyond : {c : Check} {lent : Lent} {r : Outcome Value Lent} {A : Type 0} → Clear c →
+      Refused Carried c lent r ⊎ (Clear c × A) → A
+  beyond {r = r} clear = ⊎-elim (λ x. absurd (clear (r .place) (x .place))) (λ x. x .1)
 
 -- two lists whose remainders from n on are the same agree from n on
 pub same-rest : (n : ℕ) (l m : List ℕ) → drop n l ≡ drop n m → (i : ℕ) → n ≤ i → getD l i 0 ≡ getD m i 0

@@ -64,9 +64,13 @@ sound-of-clear xs s r =
     record {
       some = omega arith;
       few = omega arith;
-      C = λ i h. within-of-range xs r (row-width * i) (omega arith);
-      D = λ i h. within-of-range xs r (row-width * i + 1) (omega arith);
-      T = λ i h. within-of-range xs r (row-width * i + 2) (omega arith);
+      row =
+          λ i h.
+          record {
+            C = within-of-range xs r (row-width * i) (omega arith);
+            D = within-of-range xs r (row-width * i + 1) (omega arith);
+            T = within-of-range xs r (row-width * i + 2) (omega arith);
+          };
     }
 
 pub clear-of-sound : (xs : List ℕ) → length xs ≡ row-width * tableOf xs .n → Sound (tableOf xs) →
@@ -81,10 +85,10 @@ clear-of-sound xs whole s = (
         let r = i / row-width in
         let l : r < tableOf xs .n = omega arith in
         by-eq i (row-width * r)
-        (λ e. rw (← e) at (s .C r l))
+        (λ e. rw (← e) at (s .row r l .C))
         (λ c. by-eq i (row-width * r + 1)
-        (λ e. rw (← e) at (s .D r l))
-        (λ d. let e : i ≡ row-width * r + 2 = omega arith in rw (← e) at (s .T r l)))
+        (λ e. rw (← e) at (s .row r l .D))
+        (λ d. let e : i ≡ row-width * r + 2 = omega arith in rw (← e) at (s .row r l .T)))
 
 -- a plan that the check 6 does not refuse is well formed
 pub plan-of-clear : (tb : Table) (ps : List ℕ) → Clear (plan-form tb ps) →

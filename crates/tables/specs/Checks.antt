@@ -3,10 +3,10 @@
 use Prim.Native.Nat.{ℕ, _+_, _*_, _≤_, _<_}
 use mathlib.Core.Path.{_≡_}
 use mathlib.Core.Logic.{_⊎_}
-use mathlib.Core.List.{List}
+use mathlib.Core.List.{List, _∷_}
 use lib.ListN.{length, getD}
 use Rattle.counting.specs.Least.{Least}
-use Rattle.tables.specs.Table.{Table, Within, row-width, most-rows}
+use Rattle.tables.specs.Table.{Table, Within, row-width, most-rows, tableOf}
 use Rattle.tables.specs.Plan.{Plan, plan-width, cap, planOf}
 use Rattle.tables.specs.Jobs.{Jobs, job-width, most-jobs, last-release, jobsOf}
 use Rattle.tables.specs.Planned.{planned-width}
@@ -35,12 +35,12 @@ abbrev pub range : List ℕ → Check
 range xs = record { number = 3; hits = Least (λ i. (i < length xs) × (Within (getD xs i 0) → ⊥)) 0 }
 
 -- "rank of an earlier row": some row before row i in the table has the same rank
-abbrev pub RankTaken : Plan → ℕ → Type 0
-RankTaken p i = (j : ℕ) × (j < i) × (p .rank j ≡ p .rank i)
+abbrev pub RankTaken : (ℕ → ℕ) → ℕ → Type 0
+RankTaken rank i = (j : ℕ) × (j < i) × (rank j ≡ rank i)
 
--- "rank outside 1 to n": the rank of row i is 0 or above n, or else an earlier row has it
-abbrev pub RankAtFault : Table → Plan → ℕ → Type 0
-RankAtFault tb p i = (((1 ≤ p .rank i) × (p .rank i ≤ tb .n)) → ⊥) ⊎ RankTaken p i
+-- "rank outside 1 to n": of n rows the rank of row i is 0 or above n, or else an earlier row has it
+abbrev pub RankAtFault : ℕ → (ℕ → ℕ) → ℕ → Type 0
+RankAtFault n rank i = (((1 ≤ rank i) × (rank i ≤ n)) → ⊥) ⊎ RankTaken rank i
 
 -- "length outside 1 to C": the length of row i is 0 or above the most that it may be
 abbrev pub LengthAtFault : Table → Plan → ℕ → Type 0
@@ -48,7 +48,7 @@ LengthAtFault tb p i = ((1 ≤ p .len i) × (p .len i ≤ cap tb i)) → ⊥
 
 -- "row at fault": row i of the plan, by its rank or by its length
 abbrev pub RowAtFault : Table → Plan → ℕ → Type 0
-RowAtFault tb p i = RankAtFault tb p i ⊎ LengthAtFault tb p i
+RowAtFault tb p i = RankAtFault (tb .n) (p .rank) i ⊎ LengthAtFault tb p i
 
 -- 6, "plan not well formed": place 32 where the slice is not two numbers for each row of the table, and otherwise
 -- the first row at fault, where there is one
@@ -104,3 +104,7 @@ job-rules tb js =
 -- 2, "output too short": the output has fewer places than the answer needs, place 0
 abbrev pub room : ℕ → List ℕ → Check
 room needed out = record { number = 2; hits = λ place. (place ≡ 0) × (length out < needed) }
+
+-- the checks of an operation that takes a task table: 1 and 3 of the slice, then those of the table that stands in it
+abbrev pub table-checks : List ℕ → (Table → List Check) → List Check
+table-checks xs rest = shape xs ∷ range xs ∷ rest (tableOf xs)

@@ -19,12 +19,16 @@ abbrev pub planOf : List ℕ → Plan
 planOf ps = record { rank = λ i. getD ps (plan-width * i) 0; len = λ i. getD ps (plan-width * i + 1) 0 }
 
 -- "1 to C": the most that the length of a row's final region may be
-abbrev pub cap : Table → ℕ → ℕ
+unfoldable pub cap : Table → ℕ → ℕ
 cap tb i = tb .C i
 
--- what a row below blocks with: its length
-abbrev pub blocks : Plan → ℕ → ℕ
-blocks p j = p .len j
+-- "the largest length below": what row j blocks with where the length of its final region is q, which is that length
+unfoldable pub longer : Table → ℕ → ℕ → ℕ
+longer tb j q = q
+
+-- what row j of a plan blocks with
+abbrev pub blocks : Table → Plan → ℕ → ℕ
+blocks tb p j = longer tb j (p .len j)
 
 -- "Ranks are 1 to n": in a well-formed plan every row has a rank from 1 to n that no other row has, and a length
 -- from 1 to the most that it may be

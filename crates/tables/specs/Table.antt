@@ -37,10 +37,14 @@ pub record Within (x : ℕ) : Type 0 where
   pub low : 1 ≤ x
   pub high : x ≤ most
 
--- a sound task table: 1 to 32 rows, and every C, D and T from 1 to 1,000,000; how D lies to T does not matter
+-- a sound row: its C, D and T from 1 to 1,000,000; how D lies to T does not matter
+pub record SoundRow (tb : Table) (i : ℕ) : Type 0 where
+  pub C : Within (tb .C i)
+  pub D : Within (tb .D i)
+  pub T : Within (tb .T i)
+
+-- a sound task table: 1 to 32 rows, each of them sound
 pub record Sound (tb : Table) : Type 0 where
   pub some : 1 ≤ tb .n
   pub few : tb .n ≤ most-rows
-  pub C : (i : ℕ) → i < tb .n → Within (tb .C i)
-  pub D : (i : ℕ) → i < tb .n → Within (tb .D i)
-  pub T : (i : ℕ) → i < tb .n → Within (tb .T i)
+  pub row : (i : ℕ) → i < tb .n → SoundRow tb i

@@ -4,19 +4,32 @@ ghost use Prim.Native.Nat.{_+_, _*_, _<_, _≤_};
 ghost use lib.ListN.{length};
 ghost use Rattle.tables.specs.Table.{tableOf, row-width, most-rows};
 ghost use Rattle.tables.specs.Plan.{planOf, plan-width};
-ghost use Rattle.tables.specs.Checks.{RowAtFault, RankTaken};
+ghost use Rattle.tables.specs.Checks.{RowAtFault, RankAtFault, RankTaken};
 ghost use Rattle.tables.specs.Answer.{numberOf, placeOf, valueOf};
-ghost use Rattle.tables.specs.inside.Rows.{tableIn};
+ghost use Rattle.tables.specs.inside.Rows.{tableIn, capIn};
 ghost use Rattle.tables.specs.inside.Checked.{Says, FirstOutside, TableChecked, PlanChecked};
 
-// How many numbers a row of a task table has, a row of a plan, a row of a planned table, and a job of a job list.
+// How many numbers a row of a task table has, a row of a plan, a row of a planned table, a row of an output of times,
+// and a job of a job list.
 pub const ROW_WIDTH: usize = 3;
 
 pub const PLAN_WIDTH: usize = 2;
 
 pub const PLANNED_WIDTH: usize = 3;
 
+pub const TIMES_WIDTH: usize = 1;
+
 pub const JOB_WIDTH: usize = 3;
+
+// The most rows of a table, and the largest number that may stand in one; the most jobs of a list, and the last tick at
+// which one may be released.
+pub const MOST_ROWS: usize = 32;
+
+pub const MOST: u32 = 1000000;
+
+pub const MOST_JOBS: usize = 4096;
+
+pub const LAST_RELEASE: u32 = 1000000;
 
 // What an operation answers: given, with its value; or refused, with the place where the refusal has one.
 pub enum Answer {
@@ -103,7 +116,7 @@ fn first_outside(xs: &[u32]) -> usize
         if x < 1 {
             return at;
         }
-        if 1000000 < x {
+        if MOST < x {
             return at;
         }
         at += 1;
@@ -119,7 +132,7 @@ pub fn check_table(xs: &[u32]) -> TableCheck
     if len == 0 {
         return TableCheck::Shape;
     }
-    if 96 < len {
+    if ROW_WIDTH * MOST_ROWS < len {
         return TableCheck::Shape;
     }
     if len % ROW_WIDTH != 0 {
@@ -151,10 +164,17 @@ pub fn rows_of(xs: &[u32], n: usize) -> [Row; 32]
     rows
 }
 
+// The most that the length of a row's final region may be.
+pub fn cap(row: Row) -> u32
+    ensures { λ r. ⌜ r ≡ capIn row ⌝ }
+{
+    row.c
+}
+
 // Whether an earlier row of the plan has the rank of row i.
 fn rank_taken(plan: &[u32], i: usize) -> bool
     requires { ⌜ plan-width * i + 1 < length (now plan) ⌝ }
-    ensures { λ r. ⌜ Says r (RankTaken (planOf (now (plan .entry))) i) ⌝ }
+    ensures { λ r. ⌜ Says r (RankTaken (planOf (now (plan .entry)) .rank) i) ⌝ }
 {
     let at = PLAN_WIDTH * i;
     let rank = plan[at];
@@ -169,28 +189,44 @@ fn rank_taken(plan: &[u32], i: usize) -> bool
     false
 }
 
-// Whether row i of the plan is at fault.
-fn row_at_fault(rows: [Row; 32], n: usize, plan: &[u32], i: usize) -> bool
+// Whether row i of a plan of n rows is at fault by its rank.
+fn rank_at_fault(plan: &[u32], n: usize, i: usize) -> bool
     requires { ⌜ (i < n) × (n ≤ most-rows) × (length (now plan) ≡ plan-width * n) ⌝ }
-    ensures { λ r. ⌜ Says r (RowAtFault (tableIn rows n) (planOf (now (plan .entry))) i) ⌝ }
+    ensures { λ r. ⌜ Says r (RankAtFault n (planOf (now (plan .entry)) .rank) i) ⌝ }
 {
-    let row = rows[i];
-    let at = PLAN_WIDTH * i;
-    let rank = plan[at] as usize;
+    let rank = plan[PLAN_WIDTH * i] as usize;
     if rank < 1 {
         return true;
     }
     if n < rank {
         return true;
     }
-    let len = plan[at + 1];
+    rank_taken(plan, i)
+}
+
+// Whether a row is at fault by its length.
+fn length_at_fault(row: Row, len: u32) -> bool
+    ensures { λ r. ⌜ Says r (((1 ≤ len) × (len ≤ capIn row)) → ⊥) ⌝ }
+{
     if len < 1 {
         return true;
     }
-    if row.c < len {
+    if cap(row) < len {
         return true;
     }
-    rank_taken(plan, i)
+    false
+}
+
+// Whether row i of the plan is at fault.
+fn row_at_fault(rows: [Row; 32], n: usize, plan: &[u32], i: usize) -> bool
+    requires { ⌜ (i < n) × (n ≤ most-rows) × (length (now plan) ≡ plan-width * n) ⌝ }
+    ensures { λ r. ⌜ Says r (RowAtFault (tableIn rows n) (planOf (now (plan .entry))) i) ⌝ }
+{
+    let row = rows[i];
+    if rank_at_fault(plan, n, i) {
+        return true;
+    }
+    length_at_fault(row, plan[PLAN_WIDTH * i + 1])
 }
 
 // The check 6 of a plan.
@@ -199,7 +235,7 @@ pub fn check_plan(rows: [Row; 32], n: usize, plan: &[u32]) -> PlanCheck
     ensures { λ r. ⌜ PlanChecked (tableIn rows n) (now (plan .entry)) r ⌝ }
 {
     if plan.len() != PLAN_WIDTH * n {
-        return PlanCheck::AtFault(32);
+        return PlanCheck::AtFault(MOST_ROWS as u32);
     }
     let mut row: usize = 0;
     while row < n {

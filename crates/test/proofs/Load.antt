@@ -18,7 +18,7 @@ pub record Positive (tb : Table) : Type 0 where
   pub T : (j : ℕ) → j < tb .n → 0 < tb .T j
 
 pub sound-positive : (tb : Table) → Sound tb → Positive tb
-sound-positive tb s = record { C = λ j l. s .C j l .low; T = λ j l. s .T j l .low }
+sound-positive tb s = record { C = λ j l. s .row j l .C .low; T = λ j l. s .row j l .T .low }
 
 -- floor plus one at s is rounding up at s + 1
 upto-before : {T : ℕ} (s : ℕ) → 0 < T → upto s T ≡ before (suc s) T

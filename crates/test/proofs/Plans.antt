@@ -11,7 +11,8 @@ use Rattle.counting.proofs.Cases.{by-bool, not-both}
 use Rattle.counting.proofs.Sum.{without-intro, given-yes, given-no, largest-ge, largest-cases}
 use Rattle.counting.proofs.Least.{least-bound, least-unique}
 use Rattle.tables.specs.Table.{Table, Sound}
-use Rattle.tables.specs.Plan.{Plan, WellFormed, blocks}
+use Rattle.tables.specs.Plan.{Plan, WellFormed, cap, blocks}
+use Rattle.tables.proofs.Plan.{cap-run, longer-ge, longer-mono, longer-run}
 use Rattle.test.specs.Test.{horizon, before, load, every-row, busy-side, BusyWithin, Active, active-side}
 use Rattle.test.specs.Test.{above, below, longest, blocking, ResponseOf}
 use Rattle.test.specs.Answers.{Bounded}
@@ -25,27 +26,27 @@ module _ (tb : Table) (p : Plan) (r : ℕ) where
   unfolding blocking
   blocking-is = refl
 
-  -- no row below is longer than the longest
-  pub longest-ge : (j : ℕ) → j < tb .n → r < p .rank j → p .len j ≤ longest tb p r
+  -- no row below blocks with more than the longest
+  pub longest-ge : (j : ℕ) → j < tb .n → r < p .rank j → blocks tb p j ≤ longest tb p r
   unfolding longest
   longest-ge j l h =
-      let counts = given-yes (below p r j) (blocks p j) (lt-ltb r _ (omega arith)) in
-      omega (arith, largest-ge (λ k. given (below p r k) (blocks p k)) (tb .n) j l)
+      let counts = given-yes (below p r j) (blocks tb p j) (lt-ltb r _ (omega arith)) in
+      omega (arith, largest-ge (λ k. given (below p r k) (blocks tb p k)) (tb .n) j l)
 
   -- where there is something below, nothing is cut off
   pub blocking-some : (j : ℕ) → j < tb .n → r < p .rank j → 1 ≤ p .len j → suc (blocking tb p r) ≡ longest tb p r
-  blocking-some j l h one = omega (arith, blocking-is, longest-ge j l h)
+  blocking-some j l h one = omega (arith, blocking-is, longest-ge j l h, longer-ge tb j (p .len j))
 
-  -- the longest is that of a row below, or there is none
+  -- the longest is what a row below blocks with, or there is none
   pub longest-cases {ℓ} : {X : Type ℓ} → (longest tb p r ≡ 0 → X) →
-      ((j : ℕ) → j < tb .n → r < p .rank j → longest tb p r ≡ p .len j → X) → X
+      ((j : ℕ) → j < tb .n → r < p .rank j → longest tb p r ≡ blocks tb p j → X) → X
   unfolding longest
   longest-cases none some =
-      largest-cases (λ j. given (below p r j) (blocks p j)) (tb .n) none
+      largest-cases (λ j. given (below p r j) (blocks tb p j)) (tb .n) none
       (λ j l e.
       by-bool (below p r j)
-      (λ t. some j l (omega (arith, ltb-true r _ t)) (e ∙ given-yes (below p r j) (blocks p j) t))
-      (λ f. none (e ∙ given-no (below p r j) (blocks p j) f)))
+      (λ t. some j l (omega (arith, ltb-true r _ t)) (e ∙ given-yes (below p r j) (blocks tb p j) t))
+      (λ f. none (e ∙ given-no (below p r j) (blocks tb p j) f)))
 
 -- where each row below is below in another plan too, and no longer, the longest is no longer
 pub longest-le : (tb : Table) (p p′ : Plan) (r r′ : ℕ) →
@@ -53,11 +54,11 @@ pub longest-le : (tb : Table) (p p′ : Plan) (r r′ : ℕ) →
     longest tb p r ≤ longest tb p′ r′
 longest-le tb p p′ r r′ h =
     longest-cases tb p r (λ e. omega arith)
-    (λ j l below e. let x = h j l below in omega (arith, x .1, longest-ge tb p′ r′ j l (x .0)))
+    (λ j l below e. let x = h j l below in omega (arith, longer-mono tb j (x .1), longest-ge tb p′ r′ j l (x .0)))
 
 -- the blocking and the rows of U, none of them below r, ask for no more than all the rows
 pub room : (tb : Table) (p : Plan) (r : ℕ) (U : ℕ → Bool) → Positive tb →
-    ((j : ℕ) → j < tb .n → r < p .rank j → (U j ≡ false) × (p .len j ≤ tb .C j)) →
+    ((j : ℕ) → j < tb .n → r < p .rank j → (U j ≡ false) × (p .len j ≤ cap tb j)) →
     (t : ℕ) → 1 ≤ t → blocking tb p r + load before tb U t ≤ busy-side tb t
 unfolding busy-side
 room tb p r U pos out t h =
@@ -68,7 +69,7 @@ room tb p r U pos out t h =
     let o = out j l below in
     let others = load-sub tb before U (without every-row j)
     (λ k _ u. without-intro every-row j k (λ q. not-both (U k) (ap U q ∙ o .0) u) refl) t in
-    omega (arith, o .1, blocking-is tb p r, load-without tb before every-row j t l refl, run-asked tb pos j t l h))
+    omega (arith, longer-run tb j (o .1), blocking-is tb p r, load-without tb before every-row j t l refl, run-asked tb pos j t l h))
 
 -- every active period of a level of U exists, within the busy period
 pub level-active : (tb : Table) (P : ℕ → Bool) (b i : ℕ) → Positive tb → i < tb .n → (w : BusyWithin tb) →
@@ -118,7 +119,7 @@ module _ (tb : Table) (sound : Sound tb) (w : BusyWithin tb) (p : Plan) (wf : We
     pub plan-response : (R : ℕ) × ResponseOf tb p i R
     plan-response =
         let a = plan-active in
-        response-exists tb P B i (p .len i) pos l (wf .len-low i l) (wf .len-high i l) (a .0) (a .1)
+        response-exists tb P B i (p .len i) pos l (wf .len-low i l) (cap-run tb i (wf .len-high i l)) (a .0) (a .1)
 
     -- every response is within H, and never below C
     pub plan-bounded : (R : ℕ) → ResponseOf tb p i R → Bounded tb p i R
@@ -126,7 +127,7 @@ module _ (tb : Table) (sound : Sound tb) (w : BusyWithin tb) (p : Plan) (wf : We
         let a = plan-active in
         let q = p .len i in
         let low = wf .len-low i l in
-        let high = wf .len-high i l in
+        let high = cap-run tb i (wf .len-high i l) in
         let same = least-unique (x .active) (a .1) in
         record {
           period = a .0;

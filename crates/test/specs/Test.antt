@@ -94,9 +94,9 @@ above p r j = ltb (p .rank j) r
 abbrev pub below : Plan → ℕ → ℕ → Bool
 below p r j = ltb r (p .rank j)
 
--- the largest length of the rows below, 0 where there is nothing below
+-- the most that a row below blocks with, 0 where there is nothing below
 unfoldable pub longest : Table → Plan → ℕ → ℕ
-longest tb p r = largest (λ j. given (below p r j) (blocks p j)) (tb .n)
+longest tb p r = largest (λ j. given (below p r j) (blocks tb p j)) (tb .n)
 
 -- "Blocking B": one less than that, since a job that blocks has executed a tick of its region before; 0 where there
 -- is nothing below. The law `blocking-some` says that nothing is cut off where there is something below.

@@ -1,5 +1,5 @@
 -- What `times` and `verdict` give, once the checks are clear, from what the responses say.
-use Prim.Native.Nat.{ℕ, _<_}
+use Prim.Native.Nat.{ℕ, _*_, _<_}
 use mathlib.Core.Path.{refl, sym, subst}
 use mathlib.Core.Logic.{inl, inr}
 use mathlib.Core.List.{List, []}
@@ -12,7 +12,7 @@ use Rattle.tables.specs.Checks.{plan-form}
 use Rattle.tables.specs.Answer.{resultOf}
 use Rattle.tables.specs.declared.Answer.the-variants.{Given}
 use Rattle.test.specs.Test.{BusyWithin, Passes, ResponseOf}
-use Rattle.test.specs.Answers.{TimesGiven, VerdictGiven}
+use Rattle.test.specs.Answers.{TimesGiven, VerdictGiven, times-width, timeIn}
 use Rattle.responses.specs.inside.Asked.{Planned, Responses}
 use Rattle.tables.proofs.Clear.{plan-of-clear}
 use Rattle.test.proofs.Response.{response-unique}
@@ -26,18 +26,18 @@ planned {tb} {ps} sound form busy =
     record { sound = sound; busy = busy; whole = p .0; plan = p .1 }
 
 pub times-given : {tb : Table} {ps out rs after : List ℕ} → Planned tb ps → Responses tb (planOf ps) rs →
-    Written rs (tb .n) out after → Granted (TimesGiven tb (planOf ps) out) (resultOf (Given (tb .n)) after)
+    Written rs (tb .n) out after → Granted (TimesGiven tb (planOf ps) out) (resultOf (Given (times-width * tb .n)) after)
 times-given {tb} {ps} {out} {rs} {after} p rights w = record { number = refl; place = refl; given = given }
   where
-    here : (i : ℕ) → i < tb .n → ResponseOf tb (planOf ps) i (getD after i 0)
+    here : (i : ℕ) → i < tb .n → ResponseOf tb (planOf ps) i (timeIn after i)
     here i l = subst (ResponseOf tb (planOf ps) i) (sym (w .front i l)) (rights .each i l)
 
-    given : TimesGiven tb (planOf ps) out (tb .n) after
+    given : TimesGiven tb (planOf ps) out (times-width * tb .n) after
     given =
         record {
           many = refl;
           responses = here;
-          bounded = λ i l. plan-bounded tb (p .sound) (p .busy) (planOf ps) (p .plan) i l (getD after i 0) (here i l);
+          bounded = λ i l. plan-bounded tb (p .sound) (p .busy) (planOf ps) (p .plan) i l (timeIn after i) (here i l);
           whole = w .whole;
           rest = w .rest;
         }

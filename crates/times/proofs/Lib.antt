@@ -1,5 +1,5 @@
 -- The laws of the crate `times`.
-pub mod Front
+pub mod Busy
 pub mod Written
 pub mod Answers
 pub mod Unique

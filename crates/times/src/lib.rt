@@ -1,27 +1,28 @@
 // The operations times and verdict: the checks in their order, then the responses of the plan's rows.
 ghost use mathlib.Core.List.{[]};
-ghost use Prim.Native.Nat.{_≤_};
+ghost use Prim.Native.Nat.{_*_, _≤_};
 ghost use lib.ListN.{length};
 ghost use Rattle.tables.specs.Table.{Sound, most-rows};
 ghost use Rattle.tables.specs.inside.Rows.{tableIn};
 ghost use Rattle.tables.specs.Answer.{resultOf};
 ghost use Rattle.tables.specs.inside.Checked.{Says};
-ghost use Rattle.test.specs.Answers.{TimesAnswer, VerdictAnswer};
+ghost use Rattle.test.specs.Answers.{TimesAnswer, VerdictAnswer, times-width};
 ghost use Rattle.times.specs.inside.Given.{Written, InTime, TimesRest, VerdictRest};
 use sides::periods::Busy;
 use tables::Answer;
 use tables::PlanCheck;
 use tables::Row;
+use tables::TIMES_WIDTH;
 use tables::TableCheck;
 
 // The first n of the times into the front of the output, row by row.
 fn write(times: [u32; 32], n: usize, out: &mut [u32])
-    requires { ⌜ (n ≤ most-rows) × (n ≤ length (now out)) ⌝ }
+    requires { ⌜ (n ≤ most-rows) × (times-width * n ≤ length (now out)) ⌝ }
     ensures { λ _. ⌜ Written times n (now (out .entry)) (now (out .exit)) ⌝ }
 {
     let mut i: usize = 0;
     while i < n {
-        out[i] = times[i];
+        out[TIMES_WIDTH * i] = times[i];
         i += 1;
     }
 }
@@ -45,14 +46,14 @@ fn in_time(rows: [Row; 32], n: usize, times: [u32; 32]) -> bool
 // times, once the table is sound: the checks 6, 2 and 4, then the times. Nothing is written before all checks are made.
 fn times_of(rows: [Row; 32], n: usize, plan: &[u32], out: &mut [u32]) -> Answer
     requires { ⌜ Sound (tableIn rows n) ⌝ }
-    ensures { λ r. ⌜ TimesRest (tableIn rows n) (now (plan .entry)) (now (out .entry))
+    ensures { λ r. ⌜ TimesRest (now (plan .entry)) (now (out .entry)) (tableIn rows n)
         (resultOf r (now (out .exit))) ⌝ }
 {
     let form = tables::check_plan(rows, n, plan);
     if let PlanCheck::AtFault(at) = form {
         return Answer::Plan(at);
     }
-    if out.len() < n {
+    if out.len() < TIMES_WIDTH * n {
         return Answer::Room;
     }
     let busy = sides::periods::busy_period(rows, n);
@@ -60,13 +61,13 @@ fn times_of(rows: [Row; 32], n: usize, plan: &[u32], out: &mut [u32]) -> Answer
         return Answer::NoBusy;
     }
     write(responses::responses(rows, n, plan), n, out);
-    Answer::Given(n as u32)
+    Answer::Given((TIMES_WIDTH * n) as u32)
 }
 
 // verdict, once the table is sound: the checks 6 and 4, then the times against the deadlines.
 fn verdict_of(rows: [Row; 32], n: usize, plan: &[u32]) -> Answer
     requires { ⌜ Sound (tableIn rows n) ⌝ }
-    ensures { λ r. ⌜ VerdictRest (tableIn rows n) (now (plan .entry)) (resultOf r []) ⌝ }
+    ensures { λ r. ⌜ VerdictRest (now (plan .entry)) (tableIn rows n) (resultOf r []) ⌝ }
 {
     let form = tables::check_plan(rows, n, plan);
     if let PlanCheck::AtFault(at) = form {

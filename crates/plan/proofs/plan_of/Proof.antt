@@ -7,14 +7,17 @@ use Rattle.tables.specs.Refusal.{Clear}
 use Rattle.tables.specs.Checks.{room}
 use Rattle.tables.specs.inside.Rows.{tableIn}
 use Rattle.test.specs.Test.{BusyWithin}
-use Rattle.times.proofs.Front.{room-refuses, room-clear, busy-refuses, busy-within, busy-clear, onward}
+use Rattle.tables.specs.Planned.{planned-width}
+use Rattle.tables.proofs.Answered.{_past_}
+use Rattle.tables.proofs.Front.{room-refuses, room-clear}
+use Rattle.times.proofs.Busy.{busy-refuses, busy-within, busy-clear}
 use Rattle.plan.proofs.Answers.{stopped-refuses, chosen-clear, plan-given}
 use Rattle.plan.proofs.plan_of.Statement.{statement}
 use Rattle.plan.proofs.plan_of.Tie as tie
 
 -- there is room
-roomy : (c : tie.Else1) → let s = c .before .before in Clear (room (3 * s .args .n) (s .args .out .now))
-roomy c = let s = c .before .before in room-clear (3 * s .args .n) (s .args .out .now) (c .if1 .left)
+roomy : (c : tie.Else1) → let s = c .before .before in Clear (room (planned-width * s .args .n) (s .args .out .now))
+roomy c = let s = c .before .before in room-clear (planned-width * s .args .n) (s .args .out .now) (c .if1 .left)
 
 -- and a busy period
 module _ (c : tie.After-enum-told2) where
@@ -33,14 +36,14 @@ returns c = room-refuses _ _ (c .if1 .taken)
 returns-2 : tie.Need-returns-2
 returns-2 c =
     let b = c .before .before in
-    onward (roomy (b .before)) (busy-refuses _ (b .busy-period .ensures) _ (c .enum-told .given .1))
+    roomy (b .before) past busy-refuses _ (b .busy-period .ensures) _ (c .enum-told .given .1)
 
 returns-3 : tie.Need-returns-3
 returns-3 c =
     let f = c .before .before in
     let e = f .before in
-    onward (roomy (E e)) (onward (busy-clear (busy e)) (stopped-refuses _
-    (⊎-elim (λ x. absurd (c .if2 .taken (x .said))) (λ x. x .stop) (f .fill .ensures))))
+    roomy (E e) past busy-clear (busy e) past stopped-refuses _
+    (⊎-elim (λ x. absurd (c .if2 .taken (x .said))) (λ x. x .stop) (f .fill .ensures))
 
 write-requires : tie.Need-write-requires
 write-requires c κs = let e = c .before .before .before .before .before .before in (S e .pre .few, E e .if1 .left)
@@ -55,9 +58,9 @@ returns-4 c =
     let o = S e .args .out .now in
     ⊎-elim
     (λ x.
-    onward (roomy (E e)) (onward (busy-clear (busy e))
-    (onward (chosen-clear (S e .pre) (r .plan) (r .times) o (x .chosen)) (rw (w .write .ensures)
-    (plan-given (S e .pre) (r .plan) (r .times) o (x .chosen) (E e .if1 .left) (x .responses))))))
+    roomy (E e) past busy-clear (busy e) past chosen-clear (S e .pre) (r .plan) (r .times) o (x .chosen)
+    past rw (w .write .ensures)
+    (plan-given (S e .pre) (r .plan) (r .times) o (x .chosen) (E e .if1 .left) (x .responses)))
     (λ x. absurd (omega (arith, x .stop .low, x .said, g .if2 .left)))
     (f .fill .ensures)
 

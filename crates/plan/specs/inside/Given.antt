@@ -4,10 +4,8 @@ use mathlib.Core.List.{List, [], _∷_, _++_}
 use lib.ListN.{getD}
 use Rattle.tables.specs.Table.{Table}
 use Rattle.tables.specs.Plan.{plan-width}
-use Rattle.tables.specs.Refusal.{Result, Answered}
-use Rattle.tables.specs.Checks.{room}
-use Rattle.test.specs.Answers.{no-busy}
-use Rattle.choice.specs.Answers.{planned-width, no-plan, PlanGiven}
+use Rattle.tables.specs.Refusal.{Result, bare, Answered}
+use Rattle.choice.specs.Answers.{PlanGiven, plan-rest}
 
 -- one planned row: "rank, length, response"
 abbrev pub three : ℕ → ℕ → ℕ → List ℕ
@@ -20,5 +18,5 @@ planned plan times (suc i) =
     planned plan times i ++ three (getD plan (plan-width * i) 0) (getD plan (plan-width * i + 1) 0) (getD times i 0)
 
 -- plan, after the checks 1 and 3
-abbrev pub PlanRest : Table → List ℕ → Result → Type 0
-PlanRest tb out r = Answered (room (planned-width * tb .n) out ∷ no-busy tb ∷ no-plan tb ∷ []) (PlanGiven tb out) out r
+abbrev pub PlanRest : List ℕ → Table → Result → Type 0
+PlanRest out tb r = Answered bare (plan-rest out tb) (PlanGiven tb out) out r

@@ -5,14 +5,18 @@ use native.Mathlib.Omega.{arith}
 use lib.ListN.{length}
 use borrow.Author.Needs.{needs}
 use mathlib.Core.List.{List}
-use mathlib.Core.Logic.{inl, inr}
+use mathlib.Core.Logic.{inl}
 use Rattle.tables.specs.Table.{Table, tableOf}
 use Rattle.tables.specs.Jobs.{jobsOf}
-use Rattle.tables.specs.inside.Rows.{tableIn}
 use Rattle.tables.specs.Refusal.{Clear}
 use Rattle.tables.specs.Checks.{plan-form, jobs-shape, job-rules}
 use Rattle.tables.specs.inside.Checked.{PlanChecked}
+use Rattle.tables.specs.declared.PlanCheck.{PlanCheck}
+use Rattle.tables.specs.declared.Answer.the-variants.{JobsShape, Job}
 use Rattle.tables.proofs.Clear.{plan-of-clear, jobs-of-clear}
+use Rattle.tables.proofs.Result.{refuse}
+use Rattle.tables.proofs.Answered.{_past_}
+use Rattle.tables.proofs.Front.{form-refuses, form-clear, room-refuses, room-clear}
 use Rattle.joblist.specs.inside.Listed.{ListSaid}
 use Rattle.play.proofs.play_sound.Statement.{statement}
 use Rattle.play.proofs.play_sound.Tie as tie
@@ -31,6 +35,10 @@ module _ (s : tie.Start) where
   abbrev os : List ℕ
   os = s .args .out .now
 
+  -- what is checked of the rows is checked of the table
+  checked : (k : PlanCheck) {t : Table} → t ≡ tb → PlanChecked t ps k → PlanChecked tb ps k
+  checked k same = subst (λ t. PlanChecked t ps k) same
+
 -- The plan is well formed.
 module _ (c : tie.After-enum-told) where
   abbrev s : tie.Start
@@ -39,9 +47,8 @@ module _ (c : tie.After-enum-told) where
   form : Clear (plan-form (tb s) (ps s))
   form =
       let d = c .before .before in
-      subst (λ t. Clear (plan-form t (ps s))) (d .before .rows-of .ensures)
-      (subst (PlanChecked (tableIn (d .before .rows-of .result) (s .args .n)) (ps s)) (c .enum-told .given .1)
-      (d .check-plan .ensures))
+      form-clear (tb s) (ps s) (checked s (d .check-plan .result) (d .before .rows-of .ensures) (d .check-plan .ensures))
+      (c .enum-told .given .1)
 
 -- The job list is well formed.
 module _ (c : tie.After-known-told3) where
@@ -59,10 +66,8 @@ returns : tie.Need-returns
 returns c =
     let d = c .before .before .before in
     let s = d .before .before .before .before .before .before in
-    let at = c .before .form .given in
-    let h = subst (λ t. plan-form t (ps s) .hits (at .0 .0)) (d .before .rows-of .ensures)
-    (subst (PlanChecked (tableIn (d .before .rows-of .result) (s .args .n)) (ps s)) (at .1) (d .check-plan .ensures)) in
-    inl (record { number = refl; place = h; value = refl; unwritten = refl })
+    form-refuses (tb s) (ps s) (checked s (d .check-plan .result) (d .before .rows-of .ensures) (d .check-plan .ensures))
+    _ _ (c .before .form .given .1)
 
 check-jobs-requires : tie.Need-check-jobs-requires
 check-jobs-requires c κs = omega (arith, s c .pre .0 .few, s c .pre .1)
@@ -73,7 +78,7 @@ returns-2 c =
     let b = s (f k) in
     let l = listed k in
     let short : length (os b) < jobsOf (js b) .N = omega (arith, c .if1 .taken) in
-    inr (form (f k), inr (l .1, inr (l .2, inl (search needs))))
+    form (f k) past l .1 past l .2 past room-refuses _ _ short
 
 finish-all-requires : tie.Need-finish-all-requires
 finish-all-requires c κs =
@@ -91,14 +96,14 @@ returns-3 c =
     let d = c .before .before in
     let b = s (d .before) in
     let h = subst (ListSaid (tb b) (js b)) (c .enum-told2 .given .1) (d .check-jobs .ensures) in
-    inr (form (d .before), inl (record { number = refl; place = h; value = refl; unwritten = refl }))
+    form (d .before) past inl (refuse _ _ JobsShape refl h refl)
 
 returns-4 : tie.Need-returns-4
 returns-4 c =
     let d = c .before .before .before in
     let b = s (d .before) in
     let h = subst (ListSaid (tb b) (js b)) (c .before .listed .given .1) (d .check-jobs .ensures) in
-    inr (form (d .before), inr (h .0, inl (record { number = refl; place = h .1; value = refl; unwritten = refl })))
+    form (d .before) past h .0 past inl (refuse _ _ (Job _) refl (h .1) refl)
 
 returns-5 : tie.Need-returns-5
 returns-5 c =
@@ -108,7 +113,8 @@ returns-5 c =
     let l = listed k in
     let fits : jobsOf (js b) .N ≤ length (os b) = omega (arith, d .before .before .if1 .left) in
     let all = d .finish-all .ensures in
-    inr (form (f k), inr (l .1, inr (l .2, inr (λ _ h. omega (arith, h .1), search needs))))
+    form (f k) past l .1 past l .2 past room-clear (jobsOf (js b) .N) (os b) fits
+    past record { number = refl; place = refl; given = rw (l .0) all }
 
 pub play-sound-spec : {M : Type 1} → statement M
 play-sound-spec = tie.close (tie.spec (λ c κs. search needs) (λ c κs. search needs) (λ c. search needs) returns

@@ -37,10 +37,10 @@ module _ (s : tie.Start Inv-loop μ-loop) where
   P = marked (s .args .above)
 
   run : Within (tb .C (s .args .i))
-  run = s .pre .0 .sound .C (s .args .i) (s .pre .2)
+  run = s .pre .0 .sound .row (s .args .i) (s .pre .2) .C
 
   spacing : Within (tb .T (s .args .i))
-  spacing = s .pre .0 .sound .T (s .args .i) (s .pre .2)
+  spacing = s .pre .0 .sound .row (s .args .i) (s .pre .2) .T
 
 -- row i in its active period
 module _ (a : tie.After-active-period Inv-loop μ-loop) where

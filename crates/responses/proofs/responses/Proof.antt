@@ -8,6 +8,7 @@ use borrow.Author.Needs.{needs}
 use Rattle.tables.specs.Table.{Table}
 use Rattle.tables.specs.Plan.{planOf}
 use Rattle.tables.specs.inside.Rows.{tableIn}
+use Rattle.tables.proofs.Plan.{cap-run}
 use Rattle.test.specs.Test.{ResponseOf}
 use Rattle.sides.specs.inside.Asks.{asking, askingIn}
 use Rattle.responses.specs.inside.Asked.{Planned}
@@ -66,7 +67,7 @@ loop-holds c = (search needs, refl, below-none _, λ j _. zeros 32 j)
 cast-response : tie.Need-cast-response Inv-loop μ-loop
 cast-response c =
     let w = placed (c .before) in
-    omega (arith, w .planned .plan .len-high _ (w .row), w .planned .sound .C _ (w .row) .high)
+    omega (arith, cap-run _ _ (w .planned .plan .len-high _ (w .row)), w .planned .sound .row _ (w .row) .C .high)
 
 response-requires : tie.Need-response-requires Inv-loop μ-loop
 response-requires c κs =
@@ -76,7 +77,7 @@ response-requires c κs =
       blocking-small w,
       w .row,
       p .plan .len-low _ (w .row),
-      p .plan .len-high _ (w .row),
+      cap-run _ _ (p .plan .len-high _ (w .row)),
       active-here w,
     )
 

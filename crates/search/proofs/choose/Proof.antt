@@ -12,7 +12,9 @@ use Rattle.counting.proofs.Cases.{not-both}
 use Rattle.counting.proofs.Sum.{without-elim}
 use Rattle.marks.specs.inside.Marks.{marked}
 use Rattle.tables.specs.Table.{Table, Within}
+use Rattle.tables.specs.Plan.{cap}
 use Rattle.tables.specs.inside.Rows.{tableIn}
+use Rattle.tables.proofs.Plan.{cap-is, cap-run}
 use Rattle.test.specs.Test.{horizon, upto, Active, active-side, start-side, Response}
 use Rattle.test.proofs.Load.{sound-positive}
 use Rattle.test.proofs.Response.{response-unique}
@@ -26,7 +28,8 @@ use Rattle.search.proofs.Period.{positive, blocking-within, period-exis
 use Rattle.search.proofs.Trial.{Trial, trial-first, trial-within, trial-again, trial-misses, trial-after}
 use Rattle.search.proofs.Trial.{trial-next, trial-passes}
 use Rattle.search.proofs.Lengths.{Narrowed, narrowed-first, narrowed-fits, narrowed-misses}
-use Rattle.search.proofs.Seen.{Seen, worth-le, seen-first, seen-same, seen-better, seen-one, seen-all, seen-none}
+use Rattle.search.proofs.Seen.{Seen, Worth, worth-le, seen-first, seen-same, seen-better, seen-one, seen-all}
+use Rattle.search.proofs.Seen.{seen-none}
 use Rattle.search.proofs.choose.Statement.{statement}
 use Rattle.search.proofs.choose.Tie as tie
 
@@ -170,10 +173,10 @@ module _ (h : Under tie.After-less3) where
       ∙ rw (level-side N, N .less .ensures .marks) (side-same (S .pre) (first N) i 1 (marked-first N) unplaced)
 
   runs : Within (tb S .C i)
-  runs = S .pre .sound .C i inside
+  runs = S .pre .sound .row i inside .C
 
   spaced : Within (tb S .T i)
-  spaced = S .pre .sound .T i inside
+  spaced = S .pre .sound .row i inside .T
 
 -- ---- its longest length worth a try
 module _ (c : Under tie.After-cap-of) where
@@ -183,8 +186,14 @@ module _ (c : Under tie.After-cap-of) where
   abbrev top : ℕ
   top = c .cap-of .result
 
-  top-le : top ≤ tb (S H) .C (i H)
-  top-le = worth-le (tb (S H) .C (i H)) (rows H .rows .best) top (c .cap-of .ensures)
+  worth : Worth (cap (tb (S H)) (i H)) (rows H .rows .best) top
+  worth = rw (cap-is (tb (S H)) (i H)) (c .cap-of .ensures)
+
+  top-le : top ≤ cap (tb (S H)) (i H)
+  top-le = worth-le (cap (tb (S H)) (i H)) (rows H .rows .best) top worth
+
+  top-run : top ≤ tb (S H) .C (i H)
+  top-run = cap-run (tb (S H)) (i H) top-le
 
 -- ---- the length that is tried
 module _ (c : Under tie.In-lengths) where
@@ -197,6 +206,9 @@ module _ (c : Under tie.In-lengths) where
   between : (c .before .lengths .low ≤ q) × (q < c .before .lengths .high)
   between = c .before .lengths .inv .1 (c .lengths-test .taken)
 
+  short-enough : q ≤ cap (tb (S R)) (i R)
+  short-enough = omega (arith, c .before .lengths .inv .0 .within, between .1, top-le (c .before .before))
+
   working : Working (tb (S R)) (P R) (b (S R)) (i R) q (L R)
   working =
       let w = c .before .lengths .inv .0 in
@@ -204,7 +216,7 @@ module _ (c : Under tie.In-lengths) where
         positive = positive (S R .pre);
         row = inside R;
         some = omega (arith, w .some, between .0);
-        most = omega (arith, w .within, between .1, top-le (c .before .before));
+        most = cap-run (tb (S R)) (i R) short-enough;
         active = active R;
         within = short R;
       }
@@ -223,11 +235,11 @@ module _ (c : Under tie.In-lengths) where
 
   shorter : {time : ℕ} → Passes time → Narrower (c .before .lengths .low) q time
   shorter f = let k = between in
-      (narrowed-fits (c .before .lengths .inv .0) (k .0) (k .1) working f, omega arith)
+      (narrowed-fits (c .before .lengths .inv .0) (k .0) (k .1) short-enough working f, omega arith)
 
   longer : Fails → Narrower (q + 1) (c .before .lengths .high) (c .before .lengths .time)
   longer f = let k = between in
-      (narrowed-misses (c .before .lengths .inv .0) (k .0) (k .1) working f, omega arith)
+      (narrowed-misses (c .before .lengths .inv .0) (k .0) (k .1) short-enough working f, omega arith)
 
 -- ---- a job that is tried
 module _ (c : Under tie.At-jobs) where
@@ -305,11 +317,11 @@ module _ (c : Under tie.After-lengths) where
 
   better : c .before .lengths .high ≤ top K → Leads (i G) (c .before .lengths .high) (c .before .lengths .time)
   better = seen-better (rows G .rows .inv) (G .before .before .next2 .ensures) (G .before .less2 .ensures) (inside G)
-      (K .cap-of .ensures) (c .before .lengths .inv .0) (c .lengths-test .left)
+      (worth K) (c .before .lengths .inv .0) (c .lengths-test .left)
 
   unchanged : top K < c .before .lengths .high → Leads (rows G .rows .row) (rows G .rows .best) (rows G .rows .response)
   unchanged = seen-same (rows G .rows .inv) (G .before .before .next2 .ensures) (G .before .less2 .ensures) (inside G)
-      (K .cap-of .ensures) (c .before .lengths .inv .0) (c .lengths-test .left)
+      (worth K) (c .before .lengths .inv .0) (c .lengths-test .left)
 
 active-side-requires : Under tie.Need-active-side-requires
 active-side-requires c κs =
@@ -351,7 +363,7 @@ loop-holds c = c .before .jobs .inv
 add-due : Under tie.Need-add-due
 add-due c =
     let h = R (c .before .before) in
-    omega (arith, released (c .before), S h .pre .sound .D (i h) (inside h) .high)
+    omega (arith, released (c .before), S h .pre .sound .row (i h) (inside h) .D .high)
 
 start-side-requires : Under tie.Need-start-side-requires
 start-side-requires c κs =
@@ -393,7 +405,7 @@ next-length-requires : Under tie.Need-next-length-requires
 next-length-requires c κs =
     let k = I (c .before .before) .before .before in
     let w = outcome c .0 in
-    (w .within, omega (arith, top-le k, runs (H k) .high), w .order)
+    (w .within, omega (arith, top-run k, runs (H k) .high), w .order)
 
 lengths-less : Under tie.Need-lengths-less
 lengths-less c = outcome (c .before) .1
@@ -417,7 +429,7 @@ cast-t58 : Under tie.Need-cast-t58
 cast-t58 c =
     let r = c .before .before in
     let f = r .rows .inv .found (pos-of-ne-zero (c .if7 .left)) in
-    omega (arith, f .2 .holds .0, begun (r .before) .pre .sound .C (r .rows .row) (f .0) .high)
+    omega (arith, cap-run _ _ (f .2 .holds .0), begun (r .before) .pre .sound .row (r .rows .row) (f .0) .C .high)
 
 cast-t59 : Under tie.Need-cast-t59
 cast-t59 c =
@@ -428,7 +440,7 @@ cast-t59 c =
     let x = f .2 .holds .1 in
     let same = response-unique (tb s) (without (U s) (r .row)) (b s) (r .row) (r .best) (r .response) (x .R)
     (r .inv .timed some) (x .response) in
-    omega (arith, x .within, s .pre .sound .D (r .row) (f .0) .high)
+    omega (arith, x .within, s .pre .sound .row (r .row) (f .0) .D .high)
 
 returns-2 : Under tie.Need-returns-2
 returns-2 c =
@@ -444,7 +456,7 @@ choose-spec = tie.close (tie.spec Inv-loop μ-loop Inv-jobs μ-jobs Inv-lengths 
     (λ c κs. (c .next2 .ensures .inside, c .next2 .ensures .first .holds)) less-requires-3 (λ c. search needs)
     (λ c. search needs) (λ c. search needs) (λ c. search needs) (λ c. search needs)
     (λ c κs. let h = c .before .before .before in (spaced h .low, omega (arith, short h, spaced h .high)))
-    (λ c κs. search needs) (λ c. omega (arith, top-le c, runs (H c) .high)) lengths-holds
+    (λ c κs. search needs) (λ c. omega (arith, top-run c, runs (H c) .high)) lengths-holds
     (λ c. omega (arith, length-first (working c), least-is (R c))) jobs-holds (λ c. c .jobs .inv .low)
     (λ c. omega (arith, released c)) (λ c. search needs) add-due loop-holds (λ c. omega (arith, within c))
     (λ c. search needs) start-side-requires loop-less loop-again (λ c. omega (arith, within (E c)))

@@ -16,7 +16,7 @@ module _ (s : tie.Start) where
   tb = askingIn (s .args .asks .now) (s .args .n)
 
   spaced : Within (tb .T (s .args .i))
-  spaced = s .pre .0 .sound .T (s .args .i) (s .pre .2)
+  spaced = s .pre .0 .sound .row (s .args .i) (s .pre .2) .T
 
 -- the row's own part, and that of the rows above
 part : (c : tie.After-round-up) → let s = c .before .before in c .round-up .result * tb s .C (s .args .i) ≤ most-asked
@@ -40,6 +40,6 @@ active-side-spec = tie.close (tie.spec (λ c. search needs) (λ c. search needs)
     (λ c. search needs) (λ c. omega (arith, spaced (c .before) .high))
     (λ c κs. let s = c .before in (spaced s .low, omega (arith, spaced s .high, s .pre .3))) (λ c. search needs)
     (λ c. search needs)
-    (λ c. let s = c .before .before .before in omega (arith, s .pre .0 .sound .C (s .args .i) (s .pre .2) .high))
+    (λ c. let s = c .before .before .before in omega (arith, s .pre .0 .sound .row (s .args .i) (s .pre .2) .C .high))
     (λ c. omega (arith, part (c .before))) (λ c. omega (arith, part (c .before))) (λ c κs. search needs)
     (λ c. omega (arith, part (c .before .before), others c)) returns)

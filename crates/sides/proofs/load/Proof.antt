@@ -31,7 +31,7 @@ module _ (a : tie.After-next Inv-loop μ-loop) where
   inside = a .before .before .loop .inv .inside j (a .next .ensures .first .holds)
 
   spaced : Within (tb .T j)
-  spaced = S .pre .0 .sound .T j inside
+  spaced = S .pre .0 .sound .row j inside .T
 
   summed : a .before .before .loop .sum ≤ 32 * most-asked
   summed =
@@ -58,7 +58,7 @@ load-spec = tie.close (tie.spec Inv-loop μ-loop (λ c. walked-none _ _ _ (c .pr
     (λ c. omega (arith, spaced (c .before) .high))
     (λ c κs. let a = c .before in (spaced a .low, omega (arith, spaced a .high, S a .pre .1))) (λ c. search needs)
     (λ c. search needs)
-    (λ c. let a = c .before .before .before in omega (arith, S a .pre .0 .sound .C (j a) (inside a) .high))
+    (λ c. let a = c .before .before .before in omega (arith, S a .pre .0 .sound .row (j a) (inside a) .C .high))
     (λ c. omega (arith, part (c .before))) (λ c. omega (arith, part (c .before), summed (c .before .before .before)))
     (λ c κs. let n = c .before .before .before .next .ensures in (n .inside, n .first .holds)) (λ c. search needs)
     loop-again (λ c. walked-all _ _ _ (c .before .loop .inv) (c .loop-test .left)))

@@ -21,7 +21,7 @@ module _ (s : tie.Start) where
   tb = askingIn (s .args .asks .now) (s .args .n)
 
   runs-small : s .args .k * tb .C (s .args .i) ≤ 1000000 * 1000000
-  runs-small = mul-le-mul {n₂ = 1000000} {m₂ = 1000000} (s .pre .5) (s .pre .0 .sound .C (s .args .i) (s .pre .2) .high)
+  runs-small = mul-le-mul {n₂ = 1000000} {m₂ = 1000000} (s .pre .5) (s .pre .0 .sound .row (s .args .i) (s .pre .2) .C .high)
 
   whole : s .args .q ≤ s .args .k * tb .C (s .args .i)
   whole = omega (arith, s .pre .3, mul-le-mul-right (tb .C (s .args .i)) (s .pre .4))
@@ -42,7 +42,7 @@ returns c =
 
 pub start-side-spec : {M : Type 1} → statement M
 start-side-spec = tie.close (tie.spec (λ c. search needs) (λ c. search needs) (λ c. search needs)
-    (λ c. let s = c .before in omega (arith, s .pre .0 .sound .C (s .args .i) (s .pre .2) .high))
+    (λ c. let s = c .before in omega (arith, s .pre .0 .sound .row (s .args .i) (s .pre .2) .C .high))
     (λ c. omega (arith, runs-small (c .before))) (λ c. omega (arith, whole (c .before)))
     (λ c. omega (arith, runs-small (c .before))) (λ c. search needs) (λ c κs. search needs)
     (λ c. omega (arith, runs-small (c .before .before), others c)) returns)

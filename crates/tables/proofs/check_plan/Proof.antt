@@ -41,6 +41,7 @@ returns-3 c =
     (here .inv .1) (omega arith)
 
 pub check-plan-spec : {M : Type 1} → statement M
-check-plan-spec = tie.close (tie.spec Inv-loop μ-loop (λ c. search needs) (λ c. inl (refl, c .if1 .taken))
+check-plan-spec = tie.close (tie.spec Inv-loop μ-loop (λ c. search needs) (λ c. search needs)
+    (λ c. inl (refl, c .if1 .taken))
     (λ c. (search needs, below-none _)) (λ c κs. search needs) (λ c. search needs) returns-2 (λ c. search needs)
     (λ c. search needs) loop-again returns-3)

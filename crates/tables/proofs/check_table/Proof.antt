@@ -34,4 +34,4 @@ returns-5 c =
 
 pub check-table-spec : {M : Type 1} → statement M
 check-table-spec = tie.close (tie.spec (λ c. search needs) (λ c. search needs) (λ c. search needs)
-    (λ c κs. search needs) (λ c. search needs) returns-4 returns-5)
+    (λ c. search needs) (λ c κs. search needs) (λ c. search needs) returns-4 returns-5)

@@ -5,12 +5,13 @@ use native.Mathlib.Omega.{arith}
 use lib.ListN.{getD}
 use borrow.Author.Count.{below-none, below-more}
 use borrow.Author.Needs.{needs}
+use Rattle.tables.specs.Plan.{plan-width}
 use Rattle.tables.proofs.rank_taken.Statement.{statement}
 use Rattle.tables.proofs.rank_taken.Tie as tie
 
 abbrev Inv-loop : tie.InvT-loop
-Inv-loop plan i at rank j₀ j = (j ≤ i) × (at ≡ 2 * i) × (rank ≡ getD plan (2 * i) 0)
-    × ((k : ℕ) → k < j → getD plan (2 * k) 0 ≡ rank → ⊥)
+Inv-loop plan i at rank j₀ j = (j ≤ i) × (at ≡ plan-width * i) × (rank ≡ getD plan (plan-width * i) 0)
+    × ((k : ℕ) → k < j → getD plan (plan-width * k) 0 ≡ rank → ⊥)
 
 abbrev μ-loop : tie.MeasureT-loop
 μ-loop plan i at rank j₀ j = i - j

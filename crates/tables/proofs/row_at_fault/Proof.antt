@@ -1,25 +1,28 @@
--- `row_at_fault` meets its contract.
-use Prim.Native.Nat.{_*_}
+-- `row_at_fault` meets its contract: at fault by its rank or by its length.
 use mathlib.Core.Logic.{inl, inr, ⊎-elim}
 use native.Mathlib.Omega.{arith}
 use borrow.Author.Needs.{needs}
-use Rattle.tables.proofs.Checked.{says-map}
+use Rattle.tables.proofs.Checked.{says-map, says-yes, says-no}
+use Rattle.tables.proofs.Plan.{cap-in}
 use Rattle.tables.proofs.row_at_fault.Statement.{statement}
 use Rattle.tables.proofs.row_at_fault.Tie as tie
 
-returns-5 : tie.Need-returns-5
-returns-5 c =
-    says-map (c .rank-taken .result)
-    (λ t. inl (inr t))
+returns : tie.Need-returns
+returns c = inl (says-yes (c .before .rank-at-fault .result) (c .if1 .taken) (c .before .rank-at-fault .ensures))
+
+returns-2 : tie.Need-returns-2
+returns-2 c =
+    let e = c .before .before in
+    let r = e .before in
+    let s = r .before .before .before in
+    let most = cap-in (s .args .t1) (s .args .n) (s .args .i) in
+    says-map (c .length-at-fault .result)
+    (λ f. inr (λ h. f (h .0, omega (arith, h .1, most))))
     (⊎-elim
-    (⊎-elim (λ r. absurd (r (omega arith, omega arith))) (λ t. t))
-    (λ r. absurd (r (omega arith, omega arith))))
-    (c .rank-taken .ensures)
+    (λ f. absurd (says-no (r .rank-at-fault .result) (e .if1 .left) (r .rank-at-fault .ensures) f))
+    (λ f h. f (h .0, omega (arith, h .1, most))))
+    (c .length-at-fault .ensures)
 
 pub row-at-fault-spec : {M : Type 1} → statement M
-row-at-fault-spec = tie.close (tie.spec (λ c. search needs) (λ c. search needs) (λ c. search needs)
-    (λ c. search needs) (λ c. search needs)
-    (λ c. omega (arith, c .shared-slice-known2 .given (2 * c .before .before .before .args .i)))
-    (λ c. inl (inl (λ r. omega (arith, r .0)))) (λ c. inl (inl (λ r. omega (arith, r .1)))) (λ c. search needs)
-    (λ c. search needs) (λ c. search needs) (λ c. inr (λ r. omega (arith, r .0)))
-    (λ c. inr (λ r. omega (arith, r .1))) (λ c κs. search needs) returns-5)
+row-at-fault-spec = tie.close (tie.spec (λ c. search needs) (λ c. search needs) (λ c κs. search needs) returns
+    (λ c. search needs) (λ c. search needs) (λ c. search needs) (λ c. search needs) (λ c κs. search needs) returns-2)

@@ -13,3 +13,7 @@ no = record { c = 0; d = 0; t = 0 }
 abbrev pub tableIn : List Row → ℕ → Table
 tableIn rows n =
     record { n = n; C = λ i. getD rows i no .c; D = λ i. getD rows i no .d; T = λ i. getD rows i no .t }
+
+-- the most that the length of such a row may be
+abbrev pub capIn : Row → ℕ
+capIn row = row .c

@@ -1,7 +1,7 @@
 -- `times` meets its contract: the checks 1 and 3, then the rest over the rows.
 use borrow.Author.Needs.{needs}
 use Rattle.times.specs.inside.Given.{TimesRest}
-use Rattle.times.proofs.Front.{shape-refuses, range-refuses, rows-ask, rows-sound, rest-answers}
+use Rattle.tables.proofs.Front.{shape-refuses, range-refuses, rows-ask, rows-sound, rest-answers}
 use Rattle.times.proofs.times.Statement.{statement}
 use Rattle.times.proofs.times.Tie as tie
 
@@ -17,7 +17,7 @@ returns-3 c =
     let k = r .before .before in
     let s = k .before .before .before .before .before .before in
     rest-answers _ (k .before .before .check-table .ensures) (k .checked2 .given .1) (r .rows-of .ensures)
-    (λ tb. TimesRest tb (s .args .plan .now) (s .args .out .now)) (t .times-of .ensures)
+    (TimesRest (s .args .plan .now) (s .args .out .now)) (t .times-of .ensures)
 
 pub times-spec : {M : Type 1} → statement M
 times-spec = tie.close (tie.spec (λ c κs. search needs) (λ c. search needs) (λ c. search needs)

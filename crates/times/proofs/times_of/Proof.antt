@@ -1,12 +1,15 @@
 -- `times_of` meets its contract: the checks 6, 2 and 4 in this order, then the responses.
+use Prim.Native.Nat.{_*_}
 use borrow.Author.Needs.{needs}
 use Rattle.tables.specs.Table.{Table}
 use Rattle.tables.specs.Refusal.{Clear}
 use Rattle.tables.specs.inside.Rows.{tableIn}
 use Rattle.tables.specs.Checks.{plan-form, room}
 use Rattle.responses.specs.inside.Asked.{Planned}
-use Rattle.times.proofs.Front.{plan-refuses, plan-clear, room-refuses, room-clear, busy-refuses, busy-within}
-use Rattle.times.proofs.Front.{busy-clear, onward}
+use Rattle.tables.proofs.Answered.{_past_}
+use Rattle.tables.proofs.Front.{form-refuses, form-clear, room-refuses, room-clear}
+use Rattle.test.specs.Answers.{times-width}
+use Rattle.times.proofs.Busy.{busy-refuses, busy-within, busy-clear}
 use Rattle.times.proofs.Answers.{planned, times-given}
 use Rattle.times.proofs.times_of.Statement.{statement}
 use Rattle.times.proofs.times_of.Tie as tie
@@ -20,11 +23,11 @@ module _ (c : tie.After-enum-told) where
   tb = tableIn (S .args .rows) (S .args .n)
 
   form : Clear (plan-form tb (S .args .plan .now))
-  form = plan-clear tb (S .args .plan .now) (c .before .before .check-plan .ensures) (c .enum-told .given .1)
+  form = form-clear tb (S .args .plan .now) (c .before .before .check-plan .ensures) (c .enum-told .given .1)
 
 -- there is room for the times
-roomy : (c : tie.Else1) → Clear (room (S (c .before) .args .n) (S (c .before) .args .out .now))
-roomy c = room-clear (S (c .before) .args .n) (S (c .before) .args .out .now) (c .if1 .left)
+roomy : (c : tie.Else1) → Clear (room (times-width * S (c .before) .args .n) (S (c .before) .args .out .now))
+roomy c = room-clear (times-width * S (c .before) .args .n) (S (c .before) .args .out .now) (c .if1 .left)
 
 -- and there is a busy period
 module _ (c : tie.After-enum-told3) where
@@ -36,26 +39,26 @@ module _ (c : tie.After-enum-told3) where
       (busy-within (tb D) (c .before .before .busy-period .ensures) (c .enum-told3 .given .1))
 
 returns : tie.Need-returns
-returns c = plan-refuses _ _ (c .before .before .before .check-plan .ensures) _ _ (c .before .form .given .1)
+returns c = form-refuses _ _ (c .before .before .before .check-plan .ensures) _ _ (c .before .form .given .1)
 
 returns-2 : tie.Need-returns-2
-returns-2 c = onward (form (c .before)) (room-refuses _ _ (c .if1 .taken))
+returns-2 c = form (c .before) past room-refuses _ _ (c .if1 .taken)
 
 returns-3 : tie.Need-returns-3
 returns-3 c =
     let b = c .before .before in
-    onward (form (b .before .before)) (onward (roomy (b .before))
-    (busy-refuses _ (b .busy-period .ensures) _ (c .enum-told2 .given .1)))
+    form (b .before .before) past roomy (b .before)
+    past busy-refuses _ (b .busy-period .ensures) _ (c .enum-told2 .given .1)
 
 returns-4 : tie.Need-returns-4
 returns-4 c =
     let w = c .before .before in
     let r = w .before .before in
     let b = r .before in
-    onward (form (D b)) (onward (roomy (b .before .before .before)) (onward (busy-clear (asked b .busy))
-    (times-given (asked b) (r .responses .ensures) (w .write .ensures))))
+    form (D b) past roomy (b .before .before .before) past busy-clear (asked b .busy)
+    past times-given (asked b) (r .responses .ensures) (w .write .ensures)
 
 pub times-of-spec : {M : Type 1} → statement M
 times-of-spec = tie.close (tie.spec (λ c κs. search needs) (λ c. search needs) returns (λ c. search needs)
-    returns-2 (λ c κs. search needs) (λ c. search needs) returns-3 (λ c. search needs) (λ c κs. asked c)
-    (λ c κs. search needs) (λ c. search needs) (λ c. search needs) returns-4)
+    (λ c. search needs) returns-2 (λ c κs. search needs) (λ c. search needs) returns-3 (λ c. search needs) (λ c κs. asked c)
+    (λ c κs. search needs) (λ c. search needs) (λ c. search needs) (λ c. search needs) returns-4)

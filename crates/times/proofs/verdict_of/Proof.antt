@@ -6,7 +6,9 @@ use Rattle.tables.specs.inside.Rows.{tableIn}
 use Rattle.tables.specs.Checks.{plan-form}
 use Rattle.responses.specs.inside.Asked.{Planned}
 use Rattle.tables.proofs.Checked.{says-yes, says-no}
-use Rattle.times.proofs.Front.{plan-refuses, plan-clear, busy-refuses, busy-within, busy-clear, onward}
+use Rattle.tables.proofs.Answered.{_past_}
+use Rattle.tables.proofs.Front.{form-refuses, form-clear}
+use Rattle.times.proofs.Busy.{busy-refuses, busy-within, busy-clear}
 use Rattle.times.proofs.Answers.{planned, verdict-yes, verdict-no}
 use Rattle.times.proofs.verdict_of.Statement.{statement}
 use Rattle.times.proofs.verdict_of.Tie as tie
@@ -20,7 +22,7 @@ module _ (c : tie.After-enum-told) where
   tb = tableIn (S .args .rows) (S .args .n)
 
   form : Clear (plan-form tb (S .args .plan .now))
-  form = plan-clear tb (S .args .plan .now) (c .before .before .check-plan .ensures) (c .enum-told .given .1)
+  form = form-clear tb (S .args .plan .now) (c .before .before .check-plan .ensures) (c .enum-told .given .1)
 
 -- and there is a busy period
 module _ (c : tie.After-enum-told3) where
@@ -32,26 +34,26 @@ module _ (c : tie.After-enum-told3) where
       (busy-within (tb D) (c .before .before .busy-period .ensures) (c .enum-told3 .given .1))
 
 returns : tie.Need-returns
-returns c = plan-refuses _ _ (c .before .before .before .check-plan .ensures) _ _ (c .before .form .given .1)
+returns c = form-refuses _ _ (c .before .before .before .check-plan .ensures) _ _ (c .before .form .given .1)
 
 returns-2 : tie.Need-returns-2
 returns-2 c =
     let b = c .before .before in
-    onward (form (b .before)) (busy-refuses _ (b .busy-period .ensures) _ (c .enum-told2 .given .1))
+    form (b .before) past busy-refuses _ (b .busy-period .ensures) _ (c .enum-told2 .given .1)
 
 returns-3 : tie.Need-returns-3
 returns-3 c =
     let t = c .before in
     let b = t .before .before in
-    onward (form (D b)) (onward (busy-clear (asked b .busy))
-    (verdict-yes (t .before .responses .ensures) (says-yes (t .in-time .result) (c .if1 .taken) (t .in-time .ensures))))
+    form (D b) past busy-clear (asked b .busy) past verdict-yes (t .before .responses .ensures)
+    (says-yes (t .in-time .result) (c .if1 .taken) (t .in-time .ensures))
 
 returns-4 : tie.Need-returns-4
 returns-4 c =
     let t = c .before in
     let b = t .before .before in
-    onward (form (D b)) (onward (busy-clear (asked b .busy))
-    (verdict-no (t .before .responses .ensures) (says-no (t .in-time .result) (c .if1 .left) (t .in-time .ensures))))
+    form (D b) past busy-clear (asked b .busy) past verdict-no (t .before .responses .ensures)
+    (says-no (t .in-time .result) (c .if1 .left) (t .in-time .ensures))
 
 pub verdict-of-spec : {M : Type 1} → statement M
 verdict-of-spec = tie.close (tie.spec (λ c κs. search needs) (λ c. search needs) returns (λ c. search needs)
