@@ -28,9 +28,11 @@ picked-not idle k h = refl
 abbrev pub Fresh : Table → Plan → Jobs → Type 0
 Fresh tb p js = (k : ℕ) → k < js .N → locked tb p (js .row k) 0 ≡ false
 
+pub fresh-row : (tb : Table) (p : Plan) → WellFormed tb p → (i : ℕ) → i < tb .n → locked tb p i 0 ≡ false
+fresh-row tb p wf i l = le-ltb (tb .C i) (0 + p .len i) (omega (arith, cap-run tb i (wf .len-high i l)))
+
 pub fresh : (tb : Table) (p : Plan) (js : Jobs) → WellFormed tb p → Lawful tb js → Fresh tb p js
-fresh tb p js wf lawful k l =
-    le-ltb (tb .C (js .row k)) (0 + p .len (js .row k)) (omega (arith, cap-run tb (js .row k) (wf .len-high (js .row k) (lawful .row k l))))
+fresh tb p js wf lawful k l = fresh-row tb p wf (js .row k) (lawful .row k l)
 
 given-suc : (b : Bool) (x : ℕ) → given b (suc x) ≡ given b x + given b 1
 given-suc true x = omega arith
