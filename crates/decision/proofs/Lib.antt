@@ -1,3 +1,3 @@
 -- The laws of the crate `decision`.
-pub mod Scan
+pub mod Order
 pub mod Unique

@@ -1,18 +1,16 @@
--- Any two results that the promise of a function of this crate allows are equal; `held` and `urgency_of` promise an
--- equation.
+-- Any two results that the promise of a function of this crate allows are equal; `held` promises an equation.
 use Prim.Native.Nat.{ℕ, _<_}
 use mathlib.Core.Path.{_≡_, sym, _∙_}
-use mathlib.Core.Bool.{Bool}
 use mathlib.Core.Logic.{⊎-elim}
 use mathlib.Core.List.{List}
 use native.Mathlib.Omega.{arith}
 use lib.ListN.{getD}
 use lib.Seq.{ext-getD}
-use Rattle.counting.proofs.Cases.{by-le}
+use Rattle.counting.proofs.Cases.{by-le, not-both}
 use Rattle.tables.specs.Table.{Table}
-use Rattle.tables.specs.Plan.{Plan}
+use Rattle.tables.specs.Plan.{Plan, WellFormed}
 use Rattle.tables.specs.Jobs.{Jobs}
-use Rattle.decision.specs.inside.Decision.{Following, Heads, Released, Foremost, Stretch}
+use Rattle.decision.specs.inside.Decision.{Following, Heads, Released, ByRank, Foremost, Stretch}
 
 -- of a kind of numbers none of which stands below another there is one at most
 one-at-most : {E : ℕ → Type 0} → ((a b : ℕ) → E a → E b → a < b → ⊥) → (a b : ℕ) → E a → E b → a ≡ b
@@ -34,17 +32,22 @@ heads-unique js n l m a b =
 pub released-unique : (js : Jobs) (from t k l : ℕ) → Released js from t k → Released js from t l → k ≡ l
 released-unique js from t = one-at-most (λ k l a b h. omega (arith, a .waits (omega arith), b .came k (a .low) h))
 
-pub foremost-unique : (tb : Table) (p : Plan) (heads done : List ℕ) (next i j : ℕ) →
-    Foremost tb p heads done next i → Foremost tb p heads done next j → i ≡ j
-foremost-unique tb p heads done next =
-    one-at-most (λ i j a b h.
-    let l : i < tb .n = omega (arith, b .high) in
-    let w = a .waits l in
-    let m = b .first i l w .0 in
-    omega (arith, b .earliest i h w, a .first j m (b .waits m) .1))
+pub by-rank-unique : (tb : Table) (p : Plan) (l m : List ℕ) → WellFormed tb p → ByRank tb p l → ByRank tb p m → l ≡ m
+by-rank-unique tb p l m wf a b =
+    ext-getD 0 l m (a .places ∙ sym (b .places))
+    (λ r _. by-le (tb .n) r
+    (λ h. a .past r h ∙ sym (b .past r h))
+    (λ h. wf .once (getD l r 0) (getD m r 0) (a .row r h) (b .row r h) (a .rank r h ∙ sym (b .rank r h))))
 
-pub stretch-unique : (js : Jobs) (next t left : ℕ) (held : Bool) (d e : ℕ) →
-    Stretch js next t left held d → Stretch js next t left held e → d ≡ e
-stretch-unique js next t left held =
-    one-at-most (λ d e a b h.
-    ⊎-elim (λ q. omega (arith, b .within)) (λ q. omega (arith, q .2, b .calm (q .0) (q .1))) (a .ends))
+pub foremost-unique : (order heads : List ℕ) (n next r s : ℕ) →
+    Foremost order heads n next r → Foremost order heads n next s → r ≡ s
+foremost-unique order heads n next =
+    one-at-most (λ r s a b h. omega (arith, b .high, a .waits (omega (arith, b .high)), b .none r h))
+
+pub stretch-unique : (tb : Table) (p : Plan) (js : Jobs) (i e run next t c d : ℕ) →
+    Stretch tb p js i e run next t c → Stretch tb p js i e run next t d → c ≡ d
+stretch-unique tb p js i e run next t =
+    one-at-most (λ c d a b h.
+    ⊎-elim (λ q. omega (arith, b .within))
+    (λ q. ⊎-elim (λ z. omega (arith, q .1)) (λ z. not-both _ (q .2) z) (b .calm c h (q .0)))
+    (a .ends))

@@ -1,12 +1,12 @@
 // What play decides with: which job of a row is next, which release is next, which row's job runs, and how long.
 ghost use mathlib.Core.Path.{_≡_};
-ghost use Prim.Native.Nat.{ℕ, _+_, _*_, _≤_, _<_};
-ghost use lib.ListN.{length, getD};
-ghost use Rattle.tables.specs.Table.{tableOf, Sound, most, most-rows};
-ghost use Rattle.tables.specs.Plan.{planOf, plan-width, WellFormed};
+ghost use Prim.Native.Nat.{ℕ, _≤_, _<_};
+ghost use lib.ListN.{getD};
+ghost use Rattle.tables.specs.Table.{tableOf, most, most-rows};
+ghost use Rattle.tables.specs.Plan.{planOf};
 ghost use Rattle.tables.specs.Jobs.{jobsOf};
 ghost use Rattle.kernel.specs.Rule.{locked};
-ghost use Rattle.decision.specs.inside.Decision.{Following, Heads, Released, Foremost, Stretch, Ruled, urgency};
+ghost use Rattle.decision.specs.inside.Decision.{Following, Heads, Released, ByRank, Foremost, Stretch, Ruled};
 use tables::JOB_WIDTH;
 use tables::PLAN_WIDTH;
 use tables::ROW_WIDTH;
@@ -58,67 +58,71 @@ pub fn released(jobs: &[u32], from: usize, t: u32) -> usize
 }
 
 // Whether a job of row i that has executed e ticks runs on.
-pub fn held(table: &[u32], plan: &[u32], i: usize, e: u32) -> bool
+fn held(table: &[u32], plan: &[u32], i: usize, e: u32) -> bool
     requires { ⌜ Ruled (now table) (now plan) × (i < tableOf (now table) .n) × (e ≤ most) ⌝ }
     ensures { λ r. ⌜ r ≡ locked (tableOf (now (table .entry))) (planOf (now (plan .entry))) i e ⌝ }
 {
     table[ROW_WIDTH * i] < e + plan[PLAN_WIDTH * i + 1]
 }
 
-// The order of the rows: the rank, and before every rank a row whose job runs on.
-pub fn urgency_of(table: &[u32], plan: &[u32], i: usize, e: u32) -> u32
-    requires { ⌜ Ruled (now table) (now plan) × (i < tableOf (now table) .n) × (e ≤ most) ⌝ }
-    ensures { λ r. ⌜ r ≡ urgency (tableOf (now (table .entry))) (planOf (now (plan .entry))) i e ⌝ }
-{
-    if held(table, plan, i, e) {
-        return 0;
-    }
-    plan[PLAN_WIDTH * i]
-}
-
-// The row whose earliest unfinished job runs, or the number of rows where none is pending.
-pub fn foremost(
-    table: &[u32],
-    plan: &[u32],
-    heads: &[usize; 32],
-    done: &[u32; 32],
-    next: usize,
-) -> usize
-    requires { ⌜ Ruled (now table) (now plan) × ((i : ℕ) → i < tableOf (now table) .n → getD (now done) i 0 ≤ most) ⌝ }
-    ensures { λ r. ⌜ Foremost (tableOf (now (table .entry))) (planOf (now (plan .entry))) (now (heads .entry))
-        (now (done .entry)) next r ⌝ }
+// The rows by rank: the row of rank r at place r − 1, and 0 past the rows.
+pub fn by_rank(table: &[u32], plan: &[u32]) -> [usize; 32]
+    requires { ⌜ Ruled (now table) (now plan) ⌝ }
+    ensures { λ r. ⌜ ByRank (tableOf (now (table .entry))) (planOf (now (plan .entry))) r ⌝ }
 {
     let n = table.len() / ROW_WIDTH;
-    let mut best = n;
-    let mut least: u32 = 33;
+    let mut order: [usize; 32] = [0; 32];
     let mut i: usize = 0;
     while i < n {
-        if heads[i] < next {
-            let u = urgency_of(table, plan, i, done[i]);
-            if u < least {
-                best = i;
-                least = u;
-            }
-        }
+        let rank = plan[PLAN_WIDTH * i] as usize;
+        order[rank - 1] = i;
         i += 1;
     }
-    best
+    order
 }
 
-// How far one decision runs: to the end of the job where it is held; else to its end or to the next release, whichever
-// comes first.
-pub fn stretch(jobs: &[u32], next: usize, t: u32, left: u32, held: bool) -> u32
-    requires { ⌜ (1 ≤ left) × (next < jobsOf (now jobs) .N → t < jobsOf (now jobs) .release next) ⌝ }
-    ensures { λ r. ⌜ Stretch (jobsOf (now (jobs .entry))) next t left held r ⌝ }
+// The first place of the order whose row's earliest unfinished job is released, or the number of rows.
+pub fn foremost(order: &[usize; 32], heads: &[usize; 32], n: usize, next: usize) -> usize
+    requires { ⌜ (n ≤ most-rows) × ((r : ℕ) → r < n → getD (now order) r 0 < n) ⌝ }
+    ensures { λ r. ⌜ Foremost (now (order .entry)) (now (heads .entry)) n next r ⌝ }
 {
-    if held {
-        return left;
+    let mut r: usize = 0;
+    while r < n {
+        let i = order[r];
+        if heads[i] < next {
+            return r;
+        }
+        r += 1;
     }
+    r
+}
+
+// How far one decision runs a job of row i that has executed e ticks and is not locked: to its end or to the next
+// release, whichever comes first; where it is locked at that release, on to its end.
+pub fn stretch(
+    table: &[u32],
+    plan: &[u32],
+    jobs: &[u32],
+    i: usize,
+    e: u32,
+    run: u32,
+    next: usize,
+    t: u32,
+) -> u32
+    requires { ⌜ Ruled (now table) (now plan) × (i < tableOf (now table) .n) × (e < run) × (run ≤ most)
+        × (next < jobsOf (now jobs) .N → t < jobsOf (now jobs) .release next) ⌝ }
+    ensures { λ r. ⌜ Stretch (tableOf (now (table .entry))) (planOf (now (plan .entry))) (jobsOf (now (jobs .entry)))
+        i e run next t r ⌝ }
+{
+    let left = run - e;
     if jobs.len() / JOB_WIDTH <= next {
         return left;
     }
     let until = jobs[JOB_WIDTH * next + 1] - t;
-    if left < until {
+    if left <= until {
+        return left;
+    }
+    if held(table, plan, i, e + until) {
         return left;
     }
     until

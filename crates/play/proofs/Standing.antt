@@ -2,20 +2,19 @@
 use Prim.Native.Nat.{ℕ, zero, suc, _+_, _-_, _*_, _≤_, _<_}
 use mathlib.Core.Path.{_≡_, refl, sym, ap, _∙_, subst}
 use mathlib.Core.Bool.{true, false}
-use mathlib.Core.Logic.{_⊎_, inl, inr}
+use mathlib.Core.Logic.{_⊎_, inl, inr, ⊎-elim}
 use native.Mathlib.Omega.{arith}
 use native.Mathlib.Nat.{add-suc, add-zero}
 use lib.Dec.{leb}
 use borrow.Author.Tests.{le-leb, lt-leb, leb-true}
 use Rattle.counting.specs.Sum.{given, count}
 use Rattle.counting.proofs.Sum.{given-sub, sum-lt}
-use Rattle.counting.proofs.Cases.{by-bool, by-eq, by-le}
+use Rattle.counting.proofs.Cases.{by-eq, by-le, not-both}
 use Rattle.tables.specs.Table.{Table, Sound, most}
 use Rattle.tables.specs.Plan.{Plan, WellFormed}
 use Rattle.tables.specs.Jobs.{Jobs, WellFormedJobs, most-jobs, last-release}
 use Rattle.kernel.specs.Rule.{job, locked, Finishes}
-use Rattle.decision.specs.inside.Decision.{Following, Released, Stretch, urgency}
-use Rattle.decision.proofs.Scan.{urgency-rank, urgency-held, urgency-free}
+use Rattle.decision.specs.inside.Decision.{Following, Released, Stretch}
 use Rattle.kernel.proofs.Rule as R
 use Rattle.kernel.proofs.Executed as X
 use Rattle.kernel.proofs.Steady as S
@@ -29,7 +28,7 @@ pub record Next (js : Jobs) (t next : ℕ) : Type 0 where
 
 -- `head` gives each row's earliest unfinished job, N where there is none, and `done` the ticks that this job has
 -- executed by tick t; the jobs of the row before it have finished, at the ticks that `out` gives, and those after it
--- have not executed
+-- have not executed; no row's earliest unfinished job is locked
 pub record Standing (tb : Table) (p : Plan) (js : Jobs) (t : ℕ) (head done out : ℕ → ℕ) : Type 0 where
   pub high : (i : ℕ) → i < tb .n → head i ≤ js .N
   pub own : (i : ℕ) → i < tb .n → head i < js .N → js .row (head i) ≡ i
@@ -38,16 +37,17 @@ pub record Standing (tb : Table) (p : Plan) (js : Jobs) (t : ℕ) (head done out
   pub now : (k : ℕ) → k < js .N → k ≡ head (js .row k) → X.E tb p js t k ≡ done (js .row k)
   pub left : (k : ℕ) → k < js .N → k ≡ head (js .row k) → done (js .row k) < js .run k
   pub not-yet : (k : ℕ) → k < js .N → head (js .row k) < k → X.E tb p js t k ≡ 0
+  pub unlocked : (i : ℕ) → i < tb .n → locked tb p i (done i) ≡ false
 
 -- the jobs that have not finished
 abbrev pub unplayed : Jobs → (ℕ → ℕ) → ℕ
 unplayed js head = count (λ k. leb (head (js .row k)) k) (js .N)
 
 -- the start of play
-pub stands : (tb : Table) (p : Plan) (js : Jobs) (head done out : ℕ → ℕ) → WellFormedJobs tb js →
+pub stands : (tb : Table) (p : Plan) (js : Jobs) (head done out : ℕ → ℕ) → WellFormed tb p → WellFormedJobs tb js →
     ((i : ℕ) → i < tb .n → Following js i 0 (head i)) → ((i : ℕ) → i < tb .n → done i ≡ 0) →
     Standing tb p js 0 head done out
-stands tb p js head done out wfj first zeros =
+stands tb p js head done out wf wfj first zeros =
     record {
       high = λ i h. first i h .high;
       own = λ i h. first i h .is;
@@ -56,6 +56,7 @@ stands tb p js head done out wfj first zeros =
       now = λ k l _. X.executed-zero tb p js k ∙ sym (zeros (js .row k) (row k l));
       left = λ k l _. rw (zeros (js .row k) (row k l)) (wfj .lawful .run-low k l);
       not-yet = λ k l _. X.executed-zero tb p js k;
+      unlocked = λ i l. rw (zeros i l) (X.fresh-row tb p wf i l);
     }
   where
     row : (k : ℕ) → k < js .N → js .row k < tb .n
@@ -103,19 +104,18 @@ module _ {tb : Table} {p : Plan} {js : Jobs} {t next : ℕ} {head done out : ℕ
       (λ h. absurd (omega (arith, nx .later k h l, pe .since)))
       (λ h. omega (arith, unfinished k l (pe .left)))
 
-  -- a job that runs on is its row's head, and its row waits
-  running : (k : ℕ) → k < js .N → R.RunsOn tb p js (E t) k → (k ≡ head (js .row k)) × (k < next)
-  running k l on =
+  -- nothing runs on: a job that did would have executed, so that it would be its row's head
+  free : R.Free tb p js (E t)
+  free k l on =
       let e = X.locked-executed tb p js fresh k (E t k) l (on .held) in
-      let r = X.released tb p js fresh t k e in
-      let u = unfinished k l (on .left) in (
-        by-eq k (head (js .row k)) (λ q. q) (λ q. absurd (omega (arith, st .not-yet k l (omega arith)))),
-        by-le next k (λ h. absurd (omega (arith, nx .later k h l))) (λ h. h),
-      )
+      let u = unfinished k l (on .left) in
+      let is : k ≡ head (js .row k) =
+      by-eq k (head (js .row k)) (λ q. q) (λ q. absurd (omega (arith, st .not-yet k l (omega arith)))) in
+      not-both _ (st .unlocked (js .row k) (row k l)) (rw (st .now k l is) at (on .held))
 
-  -- Row i is the foremost.
+  -- Of the rows that wait row i has the highest rank.
   module _ (i : ℕ) (il : i < tb .n) (waits : head i < next)
-      (first : (j : ℕ) → j < tb .n → head j < next → urgency tb p i (done i) ≤ urgency tb p j (done j)) where
+      (first : (j : ℕ) → j < tb .n → head j < next → p .rank i ≤ p .rank j) where
     abbrev c : ℕ
     c = head i
 
@@ -141,20 +141,11 @@ module _ {tb : Table} {p : Plan} {js : Jobs} {t next : ℕ} {head done out : ℕ
     pub left-head : done i < js .run c
     left-head = subst (λ r. done r < js .run c) mine (st .left c cl same)
 
-    free : locked tb p i (done i) ≡ false → R.Free tb p js (E t)
-    free h k l on =
-        let r = running k l on in
-        let u = first (js .row k) (row k l) (omega (arith, r .0, r .1)) in
-        let z = urgency-held tb p (js .row k) (done (js .row k)) (rw (st .now k l (r .0)) at (on .held)) in
-        omega (arith, urgency-free tb p i (done i) h, wf .rank-low i il)
-
-    leads : locked tb p i (done i) ≡ false → R.Leads tb p js (E t) t c
-    leads h =
+    leads : R.Leads tb p js (E t) t c
+    leads =
         record {
           pends = record { since = nx .came c waits; left = omega (arith, executed-head, left-head) };
-          highest = λ k l pe.
-              let u = first (js .row k) (row k l) (waiting k l pe) in
-              rw mine (omega (arith, urgency-free tb p i (done i) h, urgency-rank tb p (js .row k) (done (js .row k))));
+          highest = λ k l pe. rw mine (first (js .row k) (row k l) (waiting k l pe));
           earliest = λ k l pe e.
               let g : c ≤ k = omega (arith, unfinished k l (pe .left), ap head (e ∙ mine)) in
               by-eq c k (λ q. rw (← q) (omega arith)) (λ q. wfj .order c k (omega arith) l);
@@ -162,12 +153,7 @@ module _ {tb : Table} {p : Plan} {js : Jobs} {t next : ℕ} {head done out : ℕ
 
     -- so its head runs
     pub runs-head : X.runs tb p js t ≡ job c
-    runs-head =
-        by-bool (locked tb p i (done i))
-        (λ h.
-        let held : locked tb p (js .row c) (E t c) ≡ true = rw (mine, executed-head) h in
-        X.runs-on tb p js fresh t c cl (record { left = omega (arith, executed-head, left-head); held = held }))
-        (λ h. R.pick-leads tb p js sound wf (wfj .lawful) (E t) t c cl (free h) (leads h))
+    runs-head = R.pick-leads tb p js sound wf (wfj .lawful) (E t) t c cl free leads
 
     -- what is left to it lies within the last tick of play
     pub in-time : t + (js .run c - done i) ≤ last-release + most-jobs * most
@@ -182,18 +168,25 @@ module _ {tb : Table} {p : Plan} {js : Jobs} {t next : ℕ} {head done out : ℕ
         omega (arith, X.executed-slow tb p js x t c, rw q at (f .1 .finished), executed-head))
 
     -- A decision runs its head for d ticks.
-    module _ (d : ℕ) (stretch : Stretch js next t (js .run c - done i) (locked tb p i (done i)) d) where
+    module _ (d : ℕ) (stretch : Stretch tb p js i (done i) (js .run c) next t d) where
+      -- up to the release it was not locked at t, and nothing is released; from then on it is locked
       calm : (x : ℕ) → x < d →
           (locked tb p (js .row c) (E t c + x) ≡ true) ⊎ ((locked tb p (js .row c) (E t c) ≡ false) × S.Calm js t x)
       calm x h =
-          by-bool (locked tb p i (done i))
-          (λ e. inl (rw (mine, executed-head) (S.locked-on tb p i (done i) x e)))
-          (λ e. inr (
-            rw (mine, executed-head) e,
+          let quiet : (next < js .N → t + x < js .release next) →
+          (locked tb p (js .row c) (E t c) ≡ false) × S.Calm js t x =
+          λ to. (
+            rw (mine, executed-head) (st .unlocked i il),
             λ k l g. by-le next k
-                (λ q. absurd (omega (arith, stretch .calm e (omega arith), to-come k q l)))
+                (λ q. absurd (omega (arith, to (omega arith), to-come k q l)))
                 (λ q. nx .came k q),
-          ))
+          ) in
+          by-le (js .N) next
+          (λ g. inr (quiet (λ m. absurd (omega arith))))
+          (λ m. ⊎-elim
+          (λ g. inr (quiet (λ _. g)))
+          (λ g. inl (rw (mine, executed-head) g))
+          (stretch .calm x h m))
 
       room : E t c + d ≤ js .run c
       room = omega (arith, executed-head, left-head, stretch .within)
@@ -207,6 +200,8 @@ module _ {tb : Table} {p : Plan} {js : Jobs} {t next : ℕ} {head done out : ℕ
       stands-on done′ h at off =
           let a = after d (omega arith) in
           let is : (k : ℕ) → k < js .N → k ≡ head (js .row k) → js .row k ≡ i → k ≡ c = λ k l g e. g ∙ ap head e in
+          let loose : locked tb p i (done i + d) ≡ false =
+          ⊎-elim (λ q. absurd (omega arith)) (λ q. q .2) (stretch .ends) in
           record {
             high = st .high;
             own = st .own;
@@ -219,6 +214,7 @@ module _ {tb : Table} {p : Plan} {js : Jobs} {t next : ℕ} {head done out : ℕ
                 (λ e. omega (arith, ap done′ e, at, ap (js .run) (is k l g e)))
                 (λ e. rw (off (js .row k) e) (st .left k l g));
             not-yet = λ k l g. a .other k (no-head k (λ q. omega arith)) ∙ st .not-yet k l g;
+            unlocked = λ j l. by-eq j i (λ e. rw (e, at) loose) (λ e. rw (off j e) (st .unlocked j l));
           }
 
       -- the job finishes: the row goes on with its following job
@@ -258,6 +254,9 @@ module _ {tb : Table} {p : Plan} {js : Jobs} {t next : ℕ} {head done out : ℕ
             not-yet = λ k l g. by-eq (js .row k) i
                 (λ e. behind k l e (omega (arith, ap head′ e, fol .low)))
                 (λ e. a .other k (elsewhere k e) ∙ st .not-yet k l (omega (arith, hoff (js .row k) e)));
+            unlocked = λ j l. by-eq j i
+                (λ e. rw (e, at) (X.fresh-row tb p wf i il))
+                (λ e. rw (doff j e) (st .unlocked j l));
           }
 
       -- and one job fewer is unfinished
@@ -281,17 +280,15 @@ module _ {tb : Table} {p : Plan} {js : Jobs} {t next : ℕ} {head done out : ℕ
     idles m (suc x) h k =
         let u = t + x in
         let s : (l : ℕ) → E u l ≡ E t l = idles m x (omega (arith, add-suc t x)) in
-        let free : R.Free tb p js (E u) =
-        λ l g on.
-        let r = running l g (record { left = rw (s l) at (on .left); held = rw (s l) at (on .held) }) in
-        none (js .row l) (row l g) (omega (arith, r .0)) in
+        let still : R.Free tb p js (E u) =
+        λ l g on. free l g (record { left = rw (s l) at (on .left); held = rw (s l) at (on .held) }) in
         let quiet : R.Quiet tb p js (E u) u =
         λ l g pe.
         none (js .row l) (row l g)
         (by-le next l
         (λ q. absurd (omega (arith, to-come l q g, pe .since, add-suc t x)))
         (λ q. omega (arith, unfinished l g (omega (arith, s l, pe .left))))) in
-        let q = R.pick-idle tb p js (E u) u free quiet in
+        let q = R.pick-idle tb p js (E u) u still quiet in
         ap (λ v. E v k) (add-suc t x)
         ∙ X.executed-not tb p js u k (λ r. let z : _≡_ {A = ℕ} 0 1 = cc in omega arith)
         ∙ s k

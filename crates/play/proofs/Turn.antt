@@ -14,9 +14,9 @@ use Rattle.counting.proofs.Cases.{by-eq}
 use Rattle.tables.specs.Table.{Table, Sound, most, most-rows}
 use Rattle.tables.specs.Plan.{Plan, WellFormed}
 use Rattle.tables.specs.Jobs.{Jobs, WellFormedJobs, most-jobs, last-release}
-use Rattle.kernel.specs.Rule.{locked}
 use Rattle.kernel.specs.Answers.{PlayGiven}
-use Rattle.decision.specs.inside.Decision.{Following, Heads, Released, Foremost, Stretch, urgency}
+use Rattle.decision.specs.inside.Decision.{Following, Heads, Released, ByRank, Foremost, Stretch}
+use Rattle.decision.proofs.Order.{foremost-first}
 use Rattle.joblist.proofs.Walk.{zeros}
 use Rattle.play.proofs.Standing as S
 
@@ -31,7 +31,6 @@ set-other l i v j = getD-set-other l i j v 0
 pub record Playing (tb : Table) (p : Plan) (js : Jobs) (out₀ : List ℕ) (t : ℕ) (heads done out : List ℕ) : Type 0 where
   pub heads-places : length heads ≡ most-rows
   pub done-places : length done ≡ most-rows
-  pub small : (i : ℕ) → i < tb .n → at done i ≤ most
   pub standing : S.Standing tb p js t (at heads) (at done) (at out)
   pub whole : length out ≡ length out₀
   pub rest : drop (js .N) out ≡ drop (js .N) out₀
@@ -70,20 +69,19 @@ pub record Running (tb : Table) (js : Jobs) (t : ℕ) (heads done : List ℕ) (i
   pub small : js .run (at heads i) ≤ most
   pub in-time : t + (js .run (at heads i) - at done i) ≤ last-release + most-jobs * most
 
--- what becomes of play by a decision for row i, n where no row waits: it is over, it goes on to the next release, the
--- row's job has executed d ticks more, or it has finished and job k is the row's following one
-pub record Decided (tb : Table) (p : Plan) (js : Jobs) (out₀ : List ℕ) (t next : ℕ) (heads done out : List ℕ) (i : ℕ) :
-    Type 0 where
-  pub over : tb .n ≤ i → js .N ≤ next → PlayGiven tb p js out₀ (js .N) out
-  pub idles : tb .n ≤ i → next < js .N →
+-- what becomes of play by a decision for row i, at place r of the rows by rank; r is n where no row waits: it is over,
+-- it goes on to the next release, the row's job has executed d ticks more, or it has finished and job k is the row's
+-- following one
+pub record Decided (tb : Table) (p : Plan) (js : Jobs) (out₀ : List ℕ) (t next : ℕ) (heads done out : List ℕ)
+    (r i : ℕ) : Type 0 where
+  pub over : tb .n ≤ r → js .N ≤ next → PlayGiven tb p js out₀ (js .N) out
+  pub idles : tb .n ≤ r → next < js .N →
       Playing tb p js out₀ (js .release next) heads done out × Gained js next t (js .release next) heads heads
-  pub runs : i < tb .n → Running tb js t heads done i
-  pub goes-on : i < tb .n → (d : ℕ) →
-      Stretch js next t (js .run (at heads i) - at done i) (locked tb p i (at done i)) d →
+  pub runs : r < tb .n → Running tb js t heads done i
+  pub goes-on : r < tb .n → (d : ℕ) → Stretch tb p js i (at done i) (js .run (at heads i)) next t d →
       at done i + d < js .run (at heads i) →
       Playing tb p js out₀ (t + d) heads (set done i (at done i + d)) out × Gained js next t (t + d) heads heads
-  pub finishes : i < tb .n → (d k : ℕ) →
-      Stretch js next t (js .run (at heads i) - at done i) (locked tb p i (at done i)) d →
+  pub finishes : r < tb .n → (d k : ℕ) → Stretch tb p js i (at done i) (js .run (at heads i)) next t d →
       js .run (at heads i) ≤ at done i + d → js .N ≤ length out → Following js i (at heads i + 1) k →
       Playing tb p js out₀ (t + d) (set heads i k) (set done i 0) (set out (at heads i) (t + d))
       × Gained js next t (t + d) heads (set heads i k)
@@ -96,9 +94,9 @@ module _ (tb : Table) (p : Plan) (js : Jobs) (sound : Sound tb) (wf : WellFormed
     record {
       heads-places = h .places;
       done-places = length-replicate {A = ℕ} most-rows 0;
-      small = λ i _. omega (arith, zeros most-rows i);
       standing =
-          S.stands tb p js (at heads) (at (replicate most-rows 0)) (at out₀) wfj (h .first) (λ i _. zeros most-rows i);
+          S.stands tb p js (at heads) (at (replicate most-rows 0)) (at out₀) wf wfj (h .first)
+          (λ i _. zeros most-rows i);
       whole = refl;
       rest = refl;
     },
@@ -106,11 +104,11 @@ module _ (tb : Table) (p : Plan) (js : Jobs) (sound : Sound tb) (wf : WellFormed
   )
 
   module _ (t next : ℕ) (heads done out : List ℕ) (nx : S.Next js t next) (pl : Playing tb p js out₀ t heads done out)
-      (i : ℕ) (fm : Foremost tb p heads done next i) where
+      (order : List ℕ) (ranks : ByRank tb p order) (r : ℕ) (fm : Foremost order heads (tb .n) next r) where
     -- no row waits: play goes to the next release, or is over
-    module _ (no : tb .n ≤ i) where
+    module _ (no : tb .n ≤ r) where
       none : (j : ℕ) → j < tb .n → at heads j < next → ⊥
-      none j h w = omega (arith, fm .first j h w .0)
+      none j h w = omega (arith, foremost-first wf ranks fm j h w, wf .rank-high j h)
 
       turn-idle : next < js .N →
           Playing tb p js out₀ (js .release next) heads done out × Gained js next t (js .release next) heads heads
@@ -124,45 +122,53 @@ module _ (tb : Table) (p : Plan) (js : Jobs) (sound : Sound tb) (wf : WellFormed
           let all = S.all-played sound wf wfj nx (pl .standing) none (omega (arith, nx .high)) in
           search needs
 
-    -- row i's head runs
-    module _ (il : i < tb .n) where
+    -- the row at place r
+    abbrev i : ℕ
+    i = at order r
+
+    -- it waits, and its head runs
+    module _ (rl : r < tb .n) where
       abbrev c : ℕ
       c = at heads i
 
-      first : (j : ℕ) → j < tb .n → at heads j < next → urgency tb p i (at done i) ≤ urgency tb p j (at done j)
-      first j h w = fm .first j h w .1
+      il : i < tb .n
+      il = ranks .row r rl
+
+      place : i < most-rows
+      place = omega (arith, il, sound .few)
+
+      first : (j : ℕ) → j < tb .n → at heads j < next → p .rank i ≤ p .rank j
+      first j h w = omega (arith, foremost-first wf ranks fm j h w, ranks .rank r rl)
 
       running : Running tb js t heads done i
       running =
-          let job : c < js .N = omega (arith, fm .waits il, nx .high) in
+          let job : c < js .N = omega (arith, fm .waits rl, nx .high) in
           record {
             row = il;
-            place = omega (arith, sound .few);
+            place = place;
             job = job;
-            left = S.left-head sound wf wfj nx (pl .standing) i il (fm .waits il) first;
+            left = S.left-head sound wf wfj nx (pl .standing) i il (fm .waits rl) first;
             small = omega (arith, wfj .lawful .run-high c job, sound .row (js .row c) (wfj .lawful .row c job) .C);
-            in-time = S.in-time sound wf wfj nx (pl .standing) i il (fm .waits il) first;
+            in-time = S.in-time sound wf wfj nx (pl .standing) i il (fm .waits rl) first;
           }
 
-      module _ (d : ℕ) (stretch : Stretch js next t (js .run c - at done i) (locked tb p i (at done i)) d) where
+      module _ (d : ℕ) (stretch : Stretch tb p js i (at done i) (js .run c) next t d) where
         abbrev e : ℕ
         e = at done i
 
         done-same : (v : ℕ) → at (set done i v) i ≡ v
-        done-same v = getD-set-same done i v 0 (omega (arith, pl .done-places, sound .few))
+        done-same v = getD-set-same done i v 0 (omega (arith, pl .done-places, place))
 
         turn-on : e + d < js .run c →
             Playing tb p js out₀ (t + d) heads (set done i (e + d)) out × Gained js next t (t + d) heads heads
         turn-on h =
             let same = done-same (e + d) in
             let other = set-other done i (e + d) in
-            let small : (j : ℕ) → j < tb .n → at (set done i (e + d)) j ≤ most =
-            λ j l. by-eq j i (λ q. rw (q, same) (omega (arith, running))) (λ q. rw (other j q) (pl .small j l)) in
-            let st = S.stands-on sound wf wfj nx (pl .standing) i il (fm .waits il) first d stretch
+            let st = S.stands-on sound wf wfj nx (pl .standing) i il (fm .waits rl) first d stretch
             (at (set done i (e + d))) h same other in
             let gained : Gained js next t (t + d) heads heads = record {
               later = omega arith;
-              gain = ⊎-elim (λ q. absurd (omega arith)) (λ q. inr (refl, q .1, omega arith)) (stretch .ends);
+              gain = ⊎-elim (λ q. absurd (omega arith)) (λ q. inr (refl, q .0, q .1)) (stretch .ends);
             } in
             (search needs, gained)
 
@@ -170,28 +176,26 @@ module _ (tb : Table) (p : Plan) (js : Jobs) (sound : Sound tb) (wf : WellFormed
             Playing tb p js out₀ (t + d) (set heads i k) (set done i 0) (set out c (t + d))
             × Gained js next t (t + d) heads (set heads i k)
         turn-after k h room fol =
-            let heads-same = getD-set-same heads i k 0 (omega (arith, pl .heads-places, sound .few)) in
+            let heads-same = getD-set-same heads i k 0 (omega (arith, pl .heads-places, place)) in
             let follows : Following js i (c + 1) (at (set heads i k) i) = rw heads-same fol in
             let other = set-other done i 0 in
             let new = getD-set-same out c (t + d) 0 (omega (arith, running)) in
-            let small : (j : ℕ) → j < tb .n → at (set done i 0) j ≤ most =
-            λ j l. by-eq j i (λ q. rw (q, done-same 0) (omega arith)) (λ q. rw (other j q) (pl .small j l)) in
-            let st = S.stands-after sound wf wfj nx (pl .standing) i il (fm .waits il) first d stretch
+            let st = S.stands-after sound wf wfj nx (pl .standing) i il (fm .waits rl) first d stretch
             (at (set heads i k)) (at (set done i 0)) (at (set out c (t + d)))
             (omega (arith, stretch .within, running)) follows (set-other heads i k) (done-same 0) other new
             (set-other out c (t + d)) in
-            let fewer = S.fewer sound wf wfj nx (pl .standing) i il (fm .waits il) first d stretch
+            let fewer = S.fewer sound wf wfj nx (pl .standing) i il (fm .waits rl) first d stretch
             (at (set heads i k)) follows (set-other heads i k) in
             let rest : drop (js .N) (set out c (t + d)) ≡ drop (js .N) out₀ =
             drop-set-lt (js .N) out c (t + d) (running .job) ∙ pl .rest in
             (search needs, record { later = omega arith; gain = inl fewer })
 
-    pub decided : Decided tb p js out₀ t next heads done out i
+    pub decided : Decided tb p js out₀ t next heads done out r i
     decided =
         record {
           over = turn-last;
           idles = turn-idle;
           runs = running;
           goes-on = turn-on;
-          finishes = λ il d k st. turn-after il d st k;
+          finishes = λ rl d k st. turn-after rl d st k;
         }

@@ -18,7 +18,8 @@ use tables::TableCheck;
 
 // The finish tick of each job, at its place of the output. Of each row its earliest unfinished job is kept, in `heads`,
 // and the ticks that this job has executed, in `done`; the jobs before job `next` are released at tick t. Each turn of
-// the loop is one decision, or goes on to the next release.
+// the loop is one decision, or goes on to the next release. A decision leaves no unfinished job locked, so that the
+// next one goes by rank alone.
 fn finish_all(table: &[u32], plan: &[u32], jobs: &[u32], out: &mut [u32])
     requires { ⌜ Ruled (now table) (now plan) × WellFormedJobs (tableOf (now table)) (jobsOf (now jobs))
         × (jobsOf (now jobs) .N ≤ length (now out)) ⌝ }
@@ -27,23 +28,24 @@ fn finish_all(table: &[u32], plan: &[u32], jobs: &[u32], out: &mut [u32])
 {
     let n = table.len() / ROW_WIDTH;
     let many = jobs.len() / JOB_WIDTH;
+    let order = decision::by_rank(table, plan);
     let mut heads = decision::first_jobs(jobs, n);
     let mut done: [u32; 32] = [0; 32];
     let mut t: u32 = 0;
     let mut next = decision::released(jobs, 0, 0);
     loop {
-        let i = decision::foremost(table, plan, &heads, &done, next);
-        if n <= i {
+        let r = decision::foremost(&order, &heads, n, next);
+        if n <= r {
             if many <= next {
                 return;
             }
             t = jobs[JOB_WIDTH * next + 1];
         } else {
+            let i = order[r];
             let k = heads[i];
             let e = done[i];
             let run = jobs[JOB_WIDTH * k + 2];
-            let held = decision::held(table, plan, i, e);
-            let d = decision::stretch(jobs, next, t, run - e, held);
+            let d = decision::stretch(table, plan, jobs, i, e, run, next, t);
             t += d;
             if e + d < run {
                 done[i] = e + d;

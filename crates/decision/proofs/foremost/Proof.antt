@@ -1,44 +1,30 @@
--- `foremost` meets its contract. The loop's invariant is `Scanned`.
-use Prim.Native.Nat.{_-_}
+-- `foremost` meets its contract: no row at a place before place r waits.
+use Prim.Native.Nat.{ℕ, _≤_, _<_, _-_}
 use native.Mathlib.Omega.{arith}
 use borrow.Author.Needs.{needs}
-use mathlib.Core.Logic.{⊎-elim}
-use Rattle.tables.specs.Table.{tableOf}
-use Rattle.tables.specs.Plan.{planOf}
-use Rattle.decision.proofs.Scan.{Scanned, scan-none, scan-keep, scan-take, scan-end}
+use lib.ListN.{getD}
+use Rattle.counting.proofs.Cases.{by-eq}
 use Rattle.decision.proofs.foremost.Statement.{statement}
 use Rattle.decision.proofs.foremost.Tie as tie
 
 abbrev Inv-loop : tie.InvT-loop
-Inv-loop table plan heads done next n best₀ least₀ i₀ best least i =
-    Scanned (tableOf table) (planOf plan) heads done next 33 i best least
+Inv-loop order heads n next r₀ r = (r ≤ n) × ((s : ℕ) → s < r → next ≤ getD heads (getD order s 0) 0)
 
 abbrev μ-loop : tie.MeasureT-loop
-μ-loop table plan heads done next n best₀ least₀ i₀ best least i = n - i
+μ-loop order heads n next r₀ r = n - r
 
-urgency-of-requires : tie.Need-urgency-of-requires Inv-loop μ-loop
-urgency-of-requires c κs =
-    let l = c .before .before .before in
-    let b = l .before .before .before .before in
-    (b .pre .0, l .loop-test .taken, b .pre .1 (l .before .loop .i) (l .loop-test .taken))
+row : (c : tie.After-i Inv-loop μ-loop) →
+    getD (c .before .before .before .args .order .now) (c .before .before .loop .r) 0 < 32
+row c =
+    let s = c .before .before .before in
+    omega (arith, s .pre .0, s .pre .1 (c .before .before .loop .r) (c .before .loop-test .taken))
 
 loop-again : tie.Need-loop-again Inv-loop μ-loop
 loop-again c =
-    let s = c .before .before .before .loop .inv in
-    let l = c .before .before .loop-test .taken in
-    ⊎-elim
-    (λ w. rw (w .4, w .5, w .2 .ensures) (scan-take s l (w .0 .taken) (omega (arith, w .2 .ensures, w .3 .taken))))
-    (⊎-elim
-    (λ w. rw (w .4, w .5) (scan-keep s l (λ _. omega (arith, w .2 .ensures, w .3 .left))))
-    (λ w. rw (w .1, w .2) (scan-keep s l (λ h. absurd (omega (arith, w .0 .left))))))
-    (c .if1 .came)
-
-returns : tie.Need-returns Inv-loop μ-loop
-returns c =
-    let r = c .before .before .before .before .pre .0 in
-    scan-end (c .before .loop .inv) (omega arith) (λ j h. omega (arith, r .formed .rank-high j h, r .sound .few))
+    let l = c .before .before .before .before .loop in
+    (omega arith, λ s h. by-eq s (l .r) (λ e. rw e (c .if1 .left)) (λ e. l .inv .1 s (omega arith)))
 
 pub foremost-spec : {M : Type 1} → statement M
-foremost-spec = tie.close (tie.spec Inv-loop μ-loop (λ c. scan-none _ _ _ _ _ _) (λ c. search needs)
-    (λ c. search needs) (λ c. search needs) (λ c. search needs) urgency-of-requires (λ c. search needs)
-    (λ c. search needs) loop-again returns)
+foremost-spec = tie.close (tie.spec Inv-loop μ-loop (λ c. search needs) (λ c. search needs) (λ c. search needs)
+    (λ c. omega (arith, row c)) row
+    (λ c. search needs) (λ c. search needs) (λ c. search needs) loop-again (λ c. search needs))

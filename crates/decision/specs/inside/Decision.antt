@@ -3,10 +3,9 @@
 use Prim.Native.Nat.{ℕ, _+_, _*_, _≤_, _<_}
 use mathlib.Core.Path.{_≡_}
 use mathlib.Core.Logic.{_⊎_}
-use mathlib.Core.Bool.{Bool, false, not}
+use mathlib.Core.Bool.{true, false}
 use mathlib.Core.List.{List}
 use lib.ListN.{length, getD}
-use Rattle.counting.specs.Sum.{given}
 use Rattle.tables.specs.Table.{Table, Sound, tableOf, row-width, most-rows}
 use Rattle.tables.specs.Plan.{Plan, WellFormed, planOf, plan-width}
 use Rattle.tables.specs.Jobs.{Jobs}
@@ -39,25 +38,25 @@ pub record Released (js : Jobs) (from t next : ℕ) : Type 0 where
   pub came : (k : ℕ) → from ≤ k → k < next → js .release k ≤ t
   pub waits : next < js .N → t < js .release next
 
--- (a) before (b): a row whose earliest unfinished job has executed e ticks comes at its rank, and before every rank
--- where that job runs on
-abbrev pub urgency : Table → Plan → ℕ → ℕ → ℕ
-urgency tb p i e = given (not (locked tb p i e)) (p .rank i)
+-- order holds the row of rank r at place r − 1, and 0 past the rows
+pub record ByRank (tb : Table) (p : Plan) (order : List ℕ) : Type 0 where
+  pub places : length order ≡ most-rows
+  pub row : (r : ℕ) → r < tb .n → getD order r 0 < tb .n
+  pub rank : (r : ℕ) → r < tb .n → p .rank (getD order r 0) ≡ r + 1
+  pub past : (r : ℕ) → tb .n ≤ r → getD order r 0 ≡ 0
 
--- of the rows whose earliest unfinished job, at their place of heads, stands before job `next`, row i comes first,
--- among equals the earliest row; i is n where there is none
-pub record Foremost (tb : Table) (p : Plan) (heads done : List ℕ) (next i : ℕ) : Type 0 where
-  pub high : i ≤ tb .n
-  pub waits : i < tb .n → getD heads i 0 < next
-  pub first : (j : ℕ) → j < tb .n → getD heads j 0 < next →
-      (i < tb .n) × (urgency tb p i (getD done i 0) ≤ urgency tb p j (getD done j 0))
-  pub earliest : (j : ℕ) → j < i → getD heads j 0 < next →
-      urgency tb p i (getD done i 0) < urgency tb p j (getD done j 0)
+-- a row waits where its earliest unfinished job, at its place of heads, stands before job `next`; r is the first of
+-- the order's n places whose row waits, and n where none does
+pub record Foremost (order heads : List ℕ) (n next r : ℕ) : Type 0 where
+  pub high : r ≤ n
+  pub waits : r < n → getD heads (getD order r 0) 0 < next
+  pub none : (s : ℕ) → s < r → next ≤ getD heads (getD order s 0) 0
 
--- a decision runs d ticks: one at least, at most those that are left to the job, and unless it is held none past the
--- release of job `next`; it ends with the job or, unless it is held, at that release
-pub record Stretch (js : Jobs) (next t left : ℕ) (held : Bool) (d : ℕ) : Type 0 where
+-- a decision at tick t runs a job of row i, of which e ticks of its run are executed, for d ticks, one at least: in
+-- each of them the release of job `next` is still to come, or the job is locked; it ends with the job or, at that
+-- release or after it, as soon as the job is not locked
+pub record Stretch (tb : Table) (p : Plan) (js : Jobs) (i e run next t d : ℕ) : Type 0 where
   pub some : 1 ≤ d
-  pub within : d ≤ left
-  pub calm : held ≡ false → next < js .N → t + d ≤ js .release next
-  pub ends : (d ≡ left) ⊎ ((held ≡ false) × (next < js .N) × (t + d ≡ js .release next))
+  pub within : e + d ≤ run
+  pub calm : (x : ℕ) → x < d → next < js .N → (t + x < js .release next) ⊎ (locked tb p i (e + x) ≡ true)
+  pub ends : (e + d ≡ run) ⊎ ((next < js .N) × (js .release next ≤ t + d) × (locked tb p i (e + d) ≡ false))
