@@ -19,8 +19,8 @@ use Rattle.responses.proofs.Same.{response-same}
 use Rattle.choice.specs.Choice.{Chosen, Stopped}
 use Rattle.choice.specs.Answers.{planned-width, plannedOf, no-plan, PlanGiven}
 use Rattle.choice.proofs.Filled.{Same, same-agree, agree-alike, filled-same, chosen-not-stopped}
-use Rattle.plan.specs.inside.Given.{planned}
-use Rattle.plan.proofs.Written.{written-whole, written-rest, written-at}
+use Rattle.planned.specs.inside.Planned.{planned}
+use Rattle.planned.proofs.Written.{written-whole, written-rest, written-at}
 
 -- the responses of plans that have the same ranks and lengths
 pub response-plans : {tb : Table} (p p′ : Plan) {i R : ℕ} → Same tb p p′ → i < tb .n → ResponseOf tb p i R →

@@ -7,7 +7,7 @@ use native.Mathlib.Omega.{arith}
 use lib.ListN.{getD}
 use Rattle.counting.proofs.Cases.{by-le}
 use Rattle.tables.specs.Table.{Table}
-use Rattle.tables.specs.Plan.{planOf}
+use Rattle.tables.specs.Plan.{planOf, plan-width}
 use Rattle.test.proofs.Load.{Positive}
 use Rattle.sides.proofs.Pairs.{pairs-same}
 use Rattle.responses.proofs.Unique.{responses-unique}
@@ -23,11 +23,11 @@ module _ (tb : Table) (pos : Positive tb) (f g : Filling) where
   same-plan : FilledAll tb f → FilledAll tb g → f .plan ≡ g .plan
   same-plan x y =
       let one = chosen-unique tb (planOf (f .plan)) (planOf (g .plan)) pos (x .chosen) (y .chosen) in
-      let none : (k : ℕ) → 2 * tb .n ≤ k → getD (f .plan) k 0 ≡ getD (g .plan) k 0 =
+      let none : (k : ℕ) → plan-width * tb .n ≤ k → getD (f .plan) k 0 ≡ getD (g .plan) k 0 =
       λ k h. x .past k h ∙ sym (y .past k h) in
       pairs-same (f .plan) (g .plan) (x .whole ∙ sym (y .whole))
-      (λ i. by-le (tb .n) i (λ h. none (2 * i) (omega arith)) (λ h. one i h .0))
-      (λ i. by-le (tb .n) i (λ h. none (2 * i + 1) (omega arith)) (λ h. one i h .1))
+      (λ i. by-le (tb .n) i (λ h. none (plan-width * i) (omega arith)) (λ h. one i h .0))
+      (λ i. by-le (tb .n) i (λ h. none (plan-width * i + 1) (omega arith)) (λ h. one i h .1))
 
   pub ended-unique : Ended tb f → Ended tb g → f ≡ g
   ended-unique (inl x) (inl y) =

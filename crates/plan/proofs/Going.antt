@@ -14,8 +14,8 @@ use Rattle.counting.proofs.Cases.{by-bool, by-eq, not-both}
 use Rattle.counting.proofs.Sum.{without-elim, without-other, count-le}
 use Rattle.marks.specs.inside.Marks.{marked, Whole, Less}
 use Rattle.marks.proofs.Marks.{none, count-less, count-nothing, whole-count}
-use Rattle.tables.specs.Table.{Table, Sound}
-use Rattle.tables.specs.Plan.{Plan, planOf, cap}
+use Rattle.tables.specs.Table.{Table, Sound, most-rows}
+use Rattle.tables.specs.Plan.{Plan, planOf, plan-width, cap}
 use Rattle.tables.proofs.Plan.{longer-is}
 use Rattle.test.specs.Test.{before, load, busy-side, Response, longest, blocking}
 use Rattle.test.proofs.Load.{Positive}
@@ -31,42 +31,42 @@ use Rattle.plan.proofs.Timed.{Timed, response-alike, timed-at, timed-re
 
 -- the rank being filled
 abbrev pub rank : ℕ → ℕ
-rank rest = count (marked rest) 32
+rank rest = count (marked rest) most-rows
 
 module _ (tb : Table) where
   pub record Going (plan times : List ℕ) (rest b : ℕ) : Type 0 where
-    pub long : length plan ≡ 64
-    pub whole : length times ≡ 32
+    pub long : length plan ≡ plan-width * most-rows
+    pub whole : length times ≡ most-rows
     pub inside : (j : ℕ) → marked rest j ≡ true → j < tb .n
     pub free : (j : ℕ) → marked rest j ≡ true → planOf plan .rank j ≡ 0
     pub placed : (j : ℕ) → j < tb .n → marked rest j ≡ false → rank rest < planOf plan .rank j
     pub filled : Filled tb (planOf plan) (rank rest)
     pub blocks : b ≡ blocking tb (planOf plan) (rank rest)
     pub timed : (j : ℕ) → j < tb .n → marked rest j ≡ false → Timed tb (planOf plan) j (getD times j 0)
-    pub plan-past : (k : ℕ) → 2 * tb .n ≤ k → getD plan k 0 ≡ 0
+    pub plan-past : (k : ℕ) → plan-width * tb .n ≤ k → getD plan k 0 ≡ 0
     pub times-past : (j : ℕ) → tb .n ≤ j → getD times j 0 ≡ 0
 
-  pub going-first : Sound tb → (rest : ℕ) → Whole (tb .n) rest → Going (replicate 64 0) (replicate 32 0) rest 0
+  pub going-first : Sound tb → (rest : ℕ) → Whole (tb .n) rest → Going (replicate (plan-width * most-rows) 0) (replicate most-rows 0) rest 0
   going-first sound rest w =
       record {
-        long = length-replicate {A = ℕ} 64 0;
-        whole = length-replicate {A = ℕ} 32 0;
+        long = length-replicate {A = ℕ} (plan-width * most-rows) 0;
+        whole = length-replicate {A = ℕ} most-rows 0;
         inside = λ j e. ltb-true j (tb .n) (sym (w j) ∙ e);
-        free = λ j _. zeros 64 (2 * j);
+        free = λ j _. zeros (plan-width * most-rows) (plan-width * j);
         placed = λ j l e. not-both (marked rest j) e (w j ∙ lt-ltb j (tb .n) l);
         filled = subst (Filled tb empty) (sym (whole-count (tb .n) rest w (sound .few)))
-            (filled-none tb empty (λ j l. zeros 64 (2 * j)));
+            (filled-none tb empty (λ j l. zeros (plan-width * most-rows) (plan-width * j)));
         blocks =
             let z : longest tb empty (rank rest) ≡ 0 =
-            longest-cases tb empty (rank rest) (λ e. e) (λ j l lt _. absurd (omega (arith, zeros 64 (2 * j)))) in
+            longest-cases tb empty (rank rest) (λ e. e) (λ j l lt _. absurd (omega (arith, zeros (plan-width * most-rows) (plan-width * j)))) in
             omega (arith, blocking-is tb empty (rank rest));
         timed = λ j l e. not-both (marked rest j) e (w j ∙ lt-ltb j (tb .n) l);
-        plan-past = λ k _. zeros 64 k;
-        times-past = λ j _. zeros 32 j;
+        plan-past = λ k _. zeros (plan-width * most-rows) k;
+        times-past = λ j _. zeros most-rows j;
       }
     where
       empty : Plan
-      empty = planOf (replicate 64 0)
+      empty = planOf (replicate (plan-width * most-rows) 0)
 
   module _ (pos : Positive tb) {plan times : List ℕ} {rest b : ℕ} (g : Going plan times rest b) where
     abbrev p : Plan
@@ -94,7 +94,7 @@ module _ (tb : Table) where
         omega (arith, g .blocks, room tb p (rank rest) (marked rest) pos out t h)
 
     pub going-stops : {r : ℕ} → r ≡ rank rest → 1 ≤ rank rest → NoneFits tb (marked rest) b (marked rest) →
-        Ended tb (record { stopped = r; plan = replicate 64 0; times = replicate 32 0 })
+        Ended tb (record { stopped = r; plan = replicate (plan-width * most-rows) 0; times = replicate most-rows 0 })
     going-stops e some none =
         inr
         (record {
@@ -114,7 +114,7 @@ module _ (tb : Table) where
 
     pub going-ends : rest ≡ 0 → Ended tb (record { stopped = 0; plan = plan; times = times })
     going-ends e =
-        let chosen = subst (Filled tb p) (ap rank e ∙ count-nothing 32) (g .filled) in
+        let chosen = subst (Filled tb p) (ap rank e ∙ count-nothing most-rows) (g .filled) in
         inl
         (record {
           said = refl;
@@ -130,7 +130,7 @@ module _ (tb : Table) where
         })
 
     -- row y takes the rank with length q, and its response is R
-    module _ {y q R left : ℕ} (row : y < 32) (t : Takes tb (marked rest) b (marked rest) y q)
+    module _ {y q R left : ℕ} (row : y < most-rows) (t : Takes tb (marked rest) b (marked rest) y q)
         (x : Response tb (without (marked rest) y) b y q R) (d : Less rest y left) where
       abbrev p′ : Plan
       p′ = planOf (put plan y (rank rest) q)
@@ -142,17 +142,17 @@ module _ (tb : Table) where
       gone j ne e = sym (without-other (marked rest) y j ne) ∙ ap (λ Q. Q j) (sym (d .marks)) ∙ e
 
       one-less : suc (rank left) ≡ rank rest
-      one-less = omega (arith, count-less 32 d row (t .try))
+      one-less = omega (arith, count-less most-rows d row (t .try))
 
       placed-y : Placed tb p p′ (suc (rank left)) y q
       placed-y =
-          let h : 2 * y + 1 < length plan = omega (arith, g .long) in
+          let h : plan-width * y + 1 < length plan = omega (arith, g .long) in
           record {
             rank = put-first plan y (rank rest) q h ∙ sym one-less;
             len = put-second plan y (rank rest) q h;
             others = λ j _ ne. (
-              put-other plan y (rank rest) q (2 * j) (λ e. ne (omega arith)) (λ e. omega arith),
-              put-other plan y (rank rest) q (2 * j + 1) (λ e. omega arith) (λ e. ne (omega arith)),
+              put-other plan y (rank rest) q (plan-width * j) (λ e. ne (omega arith)) (λ e. omega arith),
+              put-other plan y (rank rest) q (plan-width * j + 1) (λ e. omega arith) (λ e. ne (omega arith)),
             );
           }
 

@@ -1,5 +1,4 @@
 -- The laws of the crate `plan`.
-pub mod Written
 pub mod Answers
 pub mod Unique
 pub mod Timed

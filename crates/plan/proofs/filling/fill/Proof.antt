@@ -6,7 +6,7 @@ use native.Mathlib.Omega.{arith}
 use borrow.Author.Needs.{needs}
 use Rattle.marks.specs.inside.Marks.{marked}
 use Rattle.marks.proofs.Marks.{count-something}
-use Rattle.tables.specs.Table.{Table}
+use Rattle.tables.specs.Table.{Table, most-rows}
 use Rattle.tables.specs.inside.Rows.{tableIn}
 use Rattle.test.proofs.Load.{Positive, sound-positive}
 use Rattle.search.specs.inside.Choose.{Picked}
@@ -51,7 +51,7 @@ module _ (c : tie.After-known-told Inv-loop μ-loop) where
   picked : Picks A (Taken y (c .before .pick .given .0 .1 .0) (c .before .pick .given .0 .1 .1 .0))
   picked = subst (Picks A) (c .before .pick .given .1) (S .choose .ensures)
 
-  inside : y < 32
+  inside : y < most-rows
   inside = omega (arith, picked .0 .row, A .before .before .pre .0 .few)
 
 loop-holds : tie.Need-loop-holds Inv-loop μ-loop
@@ -75,7 +75,7 @@ returns c =
     let d = c .before .before in
     let a = d .before .before .before in
     going-stops (tb a) (pos a) (a .loop .inv) (d .before .size .ensures)
-    (count-something (U a) 32 (pos-of-ne-zero (d .before .before .loop-test .taken))
+    (count-something (U a) most-rows (pos-of-ne-zero (d .before .before .loop-test .taken))
     (λ j m. omega (arith, a .loop .inv .inside j m, a .before .before .pre .0 .few)))
     (subst (Picks a) (c .enum-told .given .1) (d .choose .ensures))
 

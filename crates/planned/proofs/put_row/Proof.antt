@@ -1,8 +1,8 @@
 -- `put_row` meets its contract: three stores fill the part.
 use borrow.Author.Needs.{needs}
-use Rattle.plan.proofs.Written.{put-three}
-use Rattle.plan.proofs.put_row.Statement.{statement}
-use Rattle.plan.proofs.put_row.Tie as tie
+use Rattle.planned.proofs.Written.{put-three}
+use Rattle.planned.proofs.put_row.Statement.{statement}
+use Rattle.planned.proofs.put_row.Tie as tie
 
 returns : tie.Need-returns
 returns c = put-three (c .args .out .now) (c .args .rank) (c .args .len) (c .args .response) (c .pre)

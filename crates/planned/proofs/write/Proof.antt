@@ -6,14 +6,15 @@ use native.Mathlib.Omega.{arith}
 use lib.ListN.{length, drop}
 use borrow.Author.Needs.{needs}
 use borrow.Rule.Slice.PartMut.{same-len-mid}
-use Rattle.plan.specs.inside.Given.{planned}
-use Rattle.plan.proofs.Written.{planned-none, planned-more}
-use Rattle.plan.proofs.write.Statement.{statement}
-use Rattle.plan.proofs.write.Tie as tie
+use Rattle.tables.specs.Planned.{planned-width}
+use Rattle.planned.specs.inside.Planned.{planned}
+use Rattle.planned.proofs.Written.{planned-none, planned-more}
+use Rattle.planned.proofs.write.Statement.{statement}
+use Rattle.planned.proofs.write.Tie as tie
 
 abbrev Inv-loop : tie.InvT-loop
 Inv-loop n out₀ plan times i₀ out i =
-    (i ≤ n) × (length out ≡ length out₀) × (out ≡ planned plan times i ++ drop (3 * i) out₀)
+    (i ≤ n) × (length out ≡ length out₀) × (out ≡ planned plan times i ++ drop (planned-width * i) out₀)
 
 abbrev μ-loop : tie.MeasureT-loop
 μ-loop n out₀ plan times i₀ out i = n - i
@@ -29,7 +30,7 @@ loop-again c =
     let a = c .before .before .before .before .before .before .before .args in
     let p = c .before .before .put-row in (
       search needs,
-      same-len-mid (3 * l .i) (3 * l .i + 3 - 3 * l .i) (l .out) (p .last .0) (p .kept .0) ∙ l .inv .1,
+      same-len-mid (planned-width * l .i) (planned-width * l .i + planned-width - planned-width * l .i) (l .out) (p .last .0) (p .kept .0) ∙ l .inv .1,
       rw (l .inv .2, p .ensures) (planned-more (a .t1) (a .t2) (a .out .now) (l .i)),
     )
 
