@@ -1,5 +1,11 @@
 // The figures of document 01, run: each line as it stands there, with the answer that the library gives.
+ghost use Prim.Native.Nat.{_≤_};
+use tables::JOB_WIDTH;
+use tables::MOST_ROWS;
+use tables::PLANNED_WIDTH;
+use tables::ROW_WIDTH;
 use tables::Said;
+use tables::TIMES_WIDTH;
 
 fn main() {
     planned(&[1, 1, 1]);
@@ -27,21 +33,21 @@ fn main() {
 
 // A task table to its planned table.
 fn planned(table: &[u32]) {
-    let mut out: [u32; 96] = [0; 96];
+    let mut out: [u32; PLANNED_WIDTH * MOST_ROWS] = [0; PLANNED_WIDTH * MOST_ROWS];
     let said = templetbark::tb_plan(table, &mut out);
-    triples(table);
+    rows(table, ROW_WIDTH);
     io::write_all(1, b": ");
     if !refused(said) {
-        triples(front(&out, said));
+        rows(front(&out, said), PLANNED_WIDTH);
     }
     io::write_all(1, b"\n");
 }
 
 // A task table and a plan to its times.
 fn timed(table: &[u32], plan: &[u32]) {
-    let mut out: [u32; 32] = [0; 32];
+    let mut out: [u32; TIMES_WIDTH * MOST_ROWS] = [0; TIMES_WIDTH * MOST_ROWS];
     let said = templetbark::tb_times(table, plan, &mut out);
-    triples(table);
+    rows(table, ROW_WIDTH);
     io::write_all(1, b", plan ");
     numbers(plan);
     io::write_all(1, b": times ");
@@ -55,11 +61,11 @@ fn timed(table: &[u32], plan: &[u32]) {
 fn played(table: &[u32], plan: &[u32], jobs: &[u32]) {
     let mut out: [u32; 8] = [0; 8];
     let said = templetbark::tb_play(table, plan, jobs, &mut out);
-    triples(table);
+    rows(table, ROW_WIDTH);
     io::write_all(1, b", plan ");
     numbers(plan);
     io::write_all(1, b", jobs ");
-    triples(jobs);
+    rows(jobs, JOB_WIDTH);
     io::write_all(1, b": finishes ");
     if !refused(said) {
         numbers(front(&out, said));
@@ -69,22 +75,22 @@ fn played(table: &[u32], plan: &[u32], jobs: &[u32]) {
 
 // A sheet to its table.
 fn read(text: &[u8]) {
-    let mut out: [u32; 96] = [0; 96];
+    let mut out: [u32; ROW_WIDTH * MOST_ROWS] = [0; ROW_WIDTH * MOST_ROWS];
     let said = templetbark::tb_sheet(text, &mut out);
     io::write_all(1, b"sheet of ");
     io::print_decimal(1, text.len() as u64);
     io::write_all(1, b" bytes: ");
     if !refused(said) {
-        triples(front(&out, said));
+        rows(front(&out, said), ROW_WIDTH);
     }
     io::write_all(1, b"\n");
 }
 
 // A sheet to the printed plan.
 fn printed(text: &[u8]) {
-    let mut table: [u32; 96] = [0; 96];
+    let mut table: [u32; ROW_WIDTH * MOST_ROWS] = [0; ROW_WIDTH * MOST_ROWS];
     let read = templetbark::tb_sheet(text, &mut table);
-    let mut plan: [u32; 96] = [0; 96];
+    let mut plan: [u32; PLANNED_WIDTH * MOST_ROWS] = [0; PLANNED_WIDTH * MOST_ROWS];
     let said = templetbark::tb_plan(front(&table, read), &mut plan);
     let mut buf = io::buffer();
     let shown = templetbark::print(front(&plan, said), &mut buf);
@@ -112,28 +118,27 @@ fn front(out: &[u32], said: Said) -> &[u32] {
     &out[..end]
 }
 
-// Rows of three, as (2,5,5) (4,7,7), or none.
-fn triples(xs: &[u32]) {
+// Rows of a width, as (2,5,5) (4,7,7), or none.
+fn rows(xs: &[u32], width: usize)
+    requires { ⌜ 1 ≤ width ⌝ }
+{
     if xs.len() == 0 {
         io::write_all(1, b"none");
+        return;
     }
-    let mut i: usize = 0;
-    while i < xs.len() / 3 {
-        if 0 < i {
-            io::write_all(1, b" ");
-        }
-        triple(xs[3 * i], xs[3 * i + 1], xs[3 * i + 2]);
-        i += 1;
-    }
-}
-
-fn triple(a: u32, b: u32, c: u32) {
     io::write_all(1, b"(");
-    number(a);
-    io::write_all(1, b",");
-    number(b);
-    io::write_all(1, b",");
-    number(c);
+    let mut k: usize = 0;
+    while k < xs.len() {
+        if 0 < k {
+            if k % width == 0 {
+                io::write_all(1, b") (");
+            } else {
+                io::write_all(1, b",");
+            }
+        }
+        number(xs[k]);
+        k += 1;
+    }
     io::write_all(1, b")");
 }
 

@@ -7,6 +7,8 @@ ghost use Rattle.tables.specs.Jobs.{jobsOf};
 ghost use Rattle.tables.specs.inside.Checked.{Says};
 ghost use Rattle.joblist.specs.inside.Listed.{KeepsAlone, ListSaid};
 use tables::JOB_WIDTH;
+use tables::LAST_RELEASE;
+use tables::MOST_JOBS;
 use tables::ROW_WIDTH;
 
 // What the check says of a job list: well formed, with the number of its jobs; of no shape; or with a first job at
@@ -31,7 +33,7 @@ pub fn keeps_alone(table: &[u32], jobs: &[u32], k: usize) -> bool
     if n <= i {
         return false;
     }
-    if 1000000 < release {
+    if LAST_RELEASE < release {
         return false;
     }
     if run < 1 {
@@ -59,7 +61,7 @@ pub fn check_jobs(table: &[u32], jobs: &[u32]) -> Listed
     if jobs.len() % JOB_WIDTH != 0 {
         return Listed::Shape;
     }
-    if 4096 < many {
+    if MOST_JOBS < many {
         return Listed::Shape;
     }
     let mut last: u32 = 0;

@@ -6,6 +6,7 @@ ghost use lib.ListN.{length, drop};
 ghost use Rattle.tables.specs.Table.{most-rows};
 ghost use Rattle.tables.specs.Planned.{planned-width};
 ghost use Rattle.planned.specs.inside.Planned.{row, planned};
+use tables::MOST_ROWS;
 use tables::PLAN_WIDTH;
 use tables::PLANNED_WIDTH;
 
@@ -20,7 +21,7 @@ fn put_row(out: &mut [u32], rank: u32, len: u32, response: u32)
 }
 
 // The first n rows of a plan and its times in front, the remainder as it was.
-pub fn write(plan: [u32; 64], times: [u32; 32], n: usize, out: &mut [u32])
+pub fn write(plan: [u32; PLAN_WIDTH * MOST_ROWS], times: [u32; 32], n: usize, out: &mut [u32])
     requires { ⌜ (n ≤ most-rows) × (planned-width * n ≤ length (now out)) ⌝ }
     ensures { λ _. ⌜ now (out .exit) ≡ planned plan times n ++ drop (planned-width * n) (now (out .entry)) ⌝ }
 {

@@ -1,5 +1,6 @@
 // The printed plan: how many bytes its text has, and the text into a lent buffer.
 use tables::Answer;
+use tables::MOST_ROWS;
 use tables::PLANNED_WIDTH;
 ghost use mathlib.Core.Path.{_≡_};
 ghost use mathlib.Core.List.{[]};
@@ -17,7 +18,7 @@ ghost use Rattle.printing.specs.Answers.{FitAnswer, PrintAnswer, PrintFr
 fn rows(count: usize) -> usize
     ensures { λ r. ⌜ RowsIn count r ⌝ }
 {
-    if 96 < count {
+    if PLANNED_WIDTH * MOST_ROWS < count {
         return 0;
     }
     if count % PLANNED_WIDTH != 0 {

@@ -7,6 +7,9 @@ ghost use Rattle.tables.specs.Planned.{planned-width};
 ghost use Rattle.printing.specs.Printed.{planText, refusedLine};
 ghost use Rattle.program.specs.Reply.{Page, PagePlanned, longest-page};
 ghost use Rattle.program.specs.inside.Input.{Within};
+use tables::MOST_ROWS;
+use tables::PLANNED_WIDTH;
+use tables::ROW_WIDTH;
 
 // The line of a refusal.
 fn refuse(page: &mut [u8], number: u32, place: u32) -> &mut [u8]
@@ -30,7 +33,7 @@ fn reply_table<'a>(table: &[u32], page: &'a mut [u8]) -> &'a mut [u8]
     requires { ⌜ longest-page ≤ length (now page) ⌝ }
     ensures { λ r. ⌜ PagePlanned (now (table .entry)) (now r) × (r .ptr ≡ page .entry .ptr) ⌝ }
 {
-    let mut planned = [0u32; 96];
+    let mut planned = [0u32; PLANNED_WIDTH * MOST_ROWS];
     let said = templetbark::tb_plan(table, &mut planned);
     if said.number != 0 {
         return refuse(page, said.number, said.place);
@@ -44,7 +47,7 @@ pub fn reply<'a>(text: &[u8], page: &'a mut [u8]) -> &'a mut [u8]
     requires { ⌜ longest-page ≤ length (now page) ⌝ }
     ensures { λ r. ⌜ Page (now (text .entry)) (now r) × (r .ptr ≡ page .entry .ptr) ⌝ }
 {
-    let mut table = [0u32; 96];
+    let mut table = [0u32; ROW_WIDTH * MOST_ROWS];
     let said = templetbark::tb_sheet(text, &mut table);
     if said.number != 0 {
         return refuse(page, said.number, said.place);

@@ -3,6 +3,7 @@ use reading::Cursor;
 use reading::NumberRead;
 use reading::WordRead;
 use tables::Answer;
+use tables::MOST_ROWS;
 use tables::ROW_WIDTH;
 use tables::TableCheck;
 ghost use mathlib.Core.Path.{_≡_};
@@ -179,7 +180,7 @@ fn give(ticks: &[u32], out: &mut [u32]) -> Answer
 pub fn sheet(text: &[u8], out: &mut [u32]) -> Answer
     ensures { λ r. ⌜ SheetAnswer (now (text .entry)) (now (out .entry)) (resultOf r (now (out .exit))) ⌝ }
 {
-    let mut table = [0u32; 96];
+    let mut table = [0u32; ROW_WIDTH * MOST_ROWS];
     let got = read_sheet(text, &mut table);
     match got {
         SheetRead::Stuck(place) => Answer::Sheet(place as u32),

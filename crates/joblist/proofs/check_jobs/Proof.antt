@@ -13,7 +13,7 @@ use Rattle.tables.proofs.Checked.{says-yes, says-no}
 use Rattle.tables.proofs.Clear.{shape-of-jobs}
 use Rattle.tables.specs.Table.{Table, tableOf, most-rows}
 use mathlib.Core.List.{List}
-use Rattle.tables.specs.Jobs.{jobsOf}
+use Rattle.tables.specs.Jobs.{jobsOf, job-width}
 use Rattle.joblist.proofs.Walk.{AtFault, Walked, walked-none, walked-on, falls, too-close, first-fault, no-fault}
 use Rattle.joblist.proofs.check_jobs.Statement.{statement}
 use Rattle.joblist.proofs.check_jobs.Tie as tie
@@ -91,7 +91,7 @@ check-jobs-spec = tie.close (tie.spec Inv-loop μ-loop (λ c. (refl, λ s. c .if
     (λ c. (refl, λ s. omega (arith, s .1, s .2))) (λ c. (omega arith, walked-none _ _))
     (λ c κs. (s (c .before) .pre, c .loop-test .taken)) (λ c. search needs) returns-3 (λ c. search needs)
     (λ c. search needs) (λ c. search needs)
-    (λ c. omega (arith, c .shared-slice-known3 .given (3 * k (c .before .before .before .before))))
+    (λ c. omega (arith, c .shared-slice-known3 .given (job-width * k (c .before .before .before .before))))
     (λ c. search needs) (λ c. search needs) (λ c. search needs) (λ c. search needs) returns-4
     (λ c. omega (arith, kept c)) (λ c. omega (arith, kept c)) (λ c. omega (arith, kept c)) (λ c. search needs)
     returns-5 (λ c. omega (arith, kept (c .before))) (λ c. omega (arith, kept (c .before)))

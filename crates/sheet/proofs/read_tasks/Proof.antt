@@ -6,7 +6,7 @@ use lib.ListN.{drop, length-append, length-drop, length}
 use lib.Seq.{length-take-le}
 use borrow.Rule.Slice.PartMut.{putMid, same-len-mid}
 use Rattle.counting.proofs.Cases.{by-le}
-use Rattle.tables.specs.Table.{most-rows}
+use Rattle.tables.specs.Table.{row-width, most-rows}
 use Rattle.reading.specs.inside.Piece.{Passed}
 use Rattle.sheet.specs.Sheet.{Task, ticksOf}
 use Rattle.sheet.specs.inside.Read.{taskPiece, taskOf, Filled}
@@ -51,12 +51,12 @@ module _ (c : tie.After-slice-known2 Inv-loop μ-loop) where
   n = h k .loop .n
 
   abbrev table : List ℕ
-  table = putMid (3 * n) (3 * n + 3 - 3 * n) (h k .loop .table) (c .before .before .put-ticks .last .0)
+  table = putMid (row-width * n) (row-width * n + row-width - row-width * n) (h k .loop .table) (c .before .before .put-ticks .last .0)
 
   same : length table ≡ length (s k .args .table .now)
   same =
       let p = c .before .before .put-ticks in
-      same-len-mid (3 * n) (3 * n + 3 - 3 * n) (h k .loop .table) (p .last .0) (p .kept .0) ∙ h k .loop .inv .1
+      same-len-mid (row-width * n) (row-width * n + row-width - row-width * n) (h k .loop .table) (p .last .0) (p .kept .0) ∙ h k .loop .inv .1
 
   more : Filled (s k .args .text .now) (s k .args .tick) (s k .args .table .now) (next k) (n + 1) table
   more =
@@ -96,9 +96,9 @@ put-ticks-requires c κs =
     let k = c .before in
     let l = h k .loop in
     let whole = s k .pre .1 in
-    let e : 3 * l .n + 3 - 3 * l .n ≡ 3 = omega arith in
-    let room : 3 ≤ length (drop (3 * l .n) (l .table)) = simp length-drop (omega arith) in
-    (rw e (length-take-le 3 (drop (3 * l .n) (l .table)) room), line k .allowed, s k .pre .0 .tick-within)
+    let e : row-width * l .n + row-width - row-width * l .n ≡ row-width = omega arith in
+    let room : row-width ≤ length (drop (row-width * l .n) (l .table)) = simp length-drop (omega arith) in
+    (rw e (length-take-le row-width (drop (row-width * l .n) (l .table)) room), line k .allowed, s k .pre .0 .tick-within)
 
 returns-2 : tie.Need-returns-2 Inv-loop μ-loop
 returns-2 c =

@@ -4,6 +4,7 @@ use mathlib.Core.Logic.{inl, inr}
 use mathlib.Core.List.{List}
 use lib.ListN.{take, drop, replicate}
 use lib.Seq.{length-take-le}
+use Rattle.tables.specs.Table.{row-width, most-rows}
 use Rattle.sheet.specs.Sheet.{ticksOf}
 use Rattle.sheet.specs.Answers.{sheet-form}
 use Rattle.sheet.specs.inside.Read.{ReadsSheet}
@@ -25,8 +26,8 @@ module _ (m : tie.After-read-sheet) where
   abbrev table : List ℕ
   table = m .read-sheet .last .1 .0
 
-  told : {r : SheetRead} → m .read-sheet .result ≡ r → ReadsSheet text (replicate 96 0) table r
-  told e = subst (ReadsSheet text (replicate 96 0) table) e (m .read-sheet .ensures)
+  told : {r : SheetRead} → m .read-sheet .result ≡ r → ReadsSheet text (replicate (row-width * most-rows) 0) table r
+  told e = subst (ReadsSheet text (replicate (row-width * most-rows) 0) table) e (m .read-sheet .ensures)
 
 -- the whole text was read: the table's front is that of the sheet
 module _ (c : tie.After-known-told2) where
@@ -36,13 +37,13 @@ module _ (c : tie.After-known-told2) where
   abbrev n : ℕ
   n = c .before .got2 .given .0 .0
 
-  read : ReadsSheet (text m) (replicate 96 0) (table m) (whole.Whole n)
+  read : ReadsSheet (text m) (replicate (row-width * most-rows) 0) (table m) (whole.Whole n)
   read = told m (c .before .got2 .given .1)
 
-  front : take (3 * n) (table m) ≡ ticksOf (read .0) (read .1)
-  front = ticks-front (read .0) (read .1) n (table m) (drop (3 * n) (replicate 96 0)) (read .3) (read .4)
+  front : take (row-width * n) (table m) ≡ ticksOf (read .0) (read .1)
+  front = ticks-front (read .0) (read .1) n (table m) (drop (row-width * n) (replicate (row-width * most-rows) 0)) (read .3) (read .4)
 
-  few : 3 * n ≤ 96
+  few : row-width * n ≤ row-width * most-rows
   few = omega (arith, read .3, read .2 .formed .few)
 
 stuck : (c : tie.After-known-told) →
@@ -55,7 +56,7 @@ cast-t10 c = omega (arith, place-bound _ (c .before .got .given .0 .0) (stuck c)
 slice-aggregate-give : tie.Need-slice-aggregate-give
 slice-aggregate-give c =
     let b = c .before in
-    sym (length-take-le (3 * n b) (table (m b)) (omega (arith, few b, m b .read-sheet .kept .1 .0)))
+    sym (length-take-le (row-width * n b) (table (m b)) (omega (arith, few b, m b .read-sheet .kept .1 .0)))
 
 give-requires : tie.Need-give-requires
 give-requires c κs =
