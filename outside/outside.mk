@@ -48,16 +48,15 @@ $(OUTSIDE)/compare: $(wildcard outside/compare/*.rs) $(OUTSIDE)/libsecond.rlib $
 $(OUTSIDE)/bench: $(wildcard outside/bench/*.rs) $(OUTSIDE)/libcommon.rlib
 	$(RUST) --crate-name bench outside/bench/main.rs -L $(OUTSIDE) --extern common -o $@
 
-# x86-64: the bridge over the product, the hand-written version and the literal search; the example.
+# x86-64: the bridge over the product, the two hand-written versions and the literal search; the example.
+
+VERSIONS := by_hand by_marks literal
 
 $(OUTSIDE)/bridge.o: outside/bridge/bridge.c include/templetbark.h | $(OUTSIDE)
 	$(X86_CC) -ffreestanding -c $< -o $@
 
-$(OUTSIDE)/by_hand.o: $(wildcard outside/by_hand/*.rs outside/surface/*.rs) outside/to_x86_64.sh | $(OUTSIDE)
-	outside/to_x86_64.sh outside/by_hand/lib.rs $@ $(X86_CLANG)
-
-$(OUTSIDE)/literal.o: $(wildcard outside/literal/*.rs outside/surface/*.rs) outside/to_x86_64.sh | $(OUTSIDE)
-	outside/to_x86_64.sh outside/literal/lib.rs $@ $(X86_CLANG)
+$(OUTSIDE)/%.o: outside/%/lib.rs $(wildcard $(patsubst %,outside/%/*.rs,surface $(VERSIONS))) outside/to_x86_64.sh | $(OUTSIDE)
+	outside/to_x86_64.sh $< $@ $(X86_CLANG)
 
 $(OUTSIDE)/bridge-product: archive-is-there $(OUTSIDE)/bridge.o
 	$(X86_LINK) $@ $(OUTSIDE)/bridge.o $(ARCHIVE)

@@ -44,51 +44,52 @@ wrong() {
 }
 
 wrong 'refuses everything' by_hand/search.rs 'Ok(plan)' 'Err(Refusal(5, 0))'
-wrong 'judges the first job only' by_hand/response.rs 'release >= self.active' 'release >= t'
-wrong 'judges one job fewer' by_hand/response.rs 'release >= self.active' 'release + t >= self.active'
-wrong 'the ceiling in place of floor plus one' by_hand/response.rs '(start / r.t + 1)' 'start.div_ceil(r.t)'
+wrong 'judges the first job only' surface/trial.rs 'release >= self.active' 'release >= t'
+wrong 'judges one job fewer' surface/trial.rs 'release >= self.active' 'release + t >= self.active'
+wrong 'the ceiling in place of floor plus one' surface/trial.rs '(self.released)(start)' '(self.released)(start.max(1) - 1)'
 wrong 'times with blocking at the full length' by_hand/response.rs 'blocking.max(length - 1)' 'blocking.max(length)'
-wrong 'plan with blocking at the full length' by_hand/search.rs \
-    'blocking.max(best.length - 1)' \
-    'blocking.max(best.length)'
-wrong 'a response one tick too large' by_hand/response.rs 'break Some(largest)' 'break Some(largest + 1)'
-wrong 'a tie to the later row' by_hand/search.rs 'own.c.min(b.length - 1)' 'own.c.min(b.length)'
-wrong 'a length longer than the shortest' by_hand/search.rs 'found.0 - fails > 1' 'found.0 - fails > 2'
+wrong 'plan with blocking at the full length' by_hand/search.rs 'blocking.max(length - 1)' 'blocking.max(length)'
+wrong 'a response one tick too large' surface/trial.rs 'Some(largest)' 'Some(largest + 1)'
+wrong 'a tie to the later row' by_hand/search.rs '|b| b.length - 1' '|b| b.length'
+wrong 'a length longer than the shortest' surface/trial.rs 'found.0 - fails > 1' 'found.0 - fails > 2'
 wrong 'each row in another row'\''s part' surface/operations.rs \
-    'out.chunks_exact_mut(3).zip(&plan[..rows.n])' \
-    'out.chunks_exact_mut(3).zip(plan[..rows.n].iter().rev())'
+    'zip(&plan[..tasks.len()]) {
+        part' \
+    'zip(plan[..tasks.len()].iter().rev()) {
+        part'
 wrong 'ranks by position below rank n' by_hand/search.rs \
-    'let mut to_try = unplaced;' \
-    'let mut to_try = if unplaced == all(rows) { unplaced } else { 1 << unplaced.ilog2() };'
-wrong 'a busy period of exactly the horizon refused' by_hand/response.rs 't > HORIZON' 't >= HORIZON'
-wrong 'a busy period one tick beyond the horizon let through' by_hand/response.rs 't > HORIZON' 't > HORIZON + 1'
+    'in unplaced.iter().enumerate()' \
+    'in unplaced.iter().enumerate().skip(if unplaced.len() == tasks.len() { 0 } else { last })'
+wrong 'a busy period of exactly the horizon refused' surface/trial.rs 't > HORIZON' 't >= HORIZON'
+wrong 'a busy period one tick beyond the horizon let through' surface/trial.rs 't > HORIZON' 't > HORIZON + 1'
 wrong 'refused 5 for 4' by_hand/search.rs 'Refusal(4, 0)' 'Refusal(5, 0)'
 wrong 'plan checks the output before the numbers' surface/operations.rs \
-    'let rows = checks::table(table)?;
-    checks::room(out.len(), table.len())?;' \
-    'checks::shape(table)?;
-    checks::room(out.len(), table.len())?;
-    let rows = checks::table(table)?;'
+    'let tasks = checks::table(table)?;
+    let length = PLANNED_WIDTH * tasks.len();
+    checks::room(out.len(), length)?;' \
+    'let length = PLANNED_WIDTH * checks::shape::<{ super::rows::ROW_WIDTH }>(table)?.len();
+    checks::room(out.len(), length)?;
+    let tasks = checks::table(table)?;'
 wrong 'times checks the output before the plan' surface/operations.rs \
-    'let mut plan = checks::plan(&rows, plan)?;
-    checks::room(out.len(), rows.n)?;' \
-    'checks::room(out.len(), rows.n)?;
-    let mut plan = checks::plan(&rows, plan)?;'
-wrong 'a number of 1,000,000 refused' surface/checks.rs 'u64::from(*v) > MOST' 'u64::from(*v) >= MOST'
+    'let mut plan = checks::plan(tasks, plan)?;
+    checks::room(out.len(), tasks.len())?;' \
+    'checks::room(out.len(), tasks.len())?;
+    let mut plan = checks::plan(tasks, plan)?;'
+wrong 'a number of 1,000,000 refused' surface/checks.rs '*v > MOST' '*v >= MOST'
 wrong 'the place of a number one too far' surface/checks.rs 'Refusal(3, i)' 'Refusal(3, i + 1)'
-wrong 'place 31 for a plan of the wrong size' surface/checks.rs 'Refusal(6, PLACES)' 'Refusal(6, PLACES - 1)'
+wrong 'place 31 for a plan of the wrong size' surface/checks.rs 'Refusal(6, MOST_ROWS)' 'Refusal(6, MOST_ROWS - 1)'
 wrong 'a rank twice let through' surface/checks.rs ' && seen >> rank & 1 == 0' ''
-wrong '33 rows let through to a trap' surface/checks.rs 'rows > PLACES' 'rows > PLACES + 1'
-wrong '4,097 jobs let through' surface/checks.rs 'MOST_JOBS: usize = 4_096' 'MOST_JOBS: usize = 4_097'
+wrong '33 rows let through to a trap' surface/checks.rs 'rows.len() > MOST_ROWS' 'rows.len() > MOST_ROWS + 1'
+wrong '4,097 jobs let through' surface/rows.rs 'MOST_JOBS: usize = 4_096' 'MOST_JOBS: usize = 4_097'
 wrong 'jobs of a row T - 1 apart let through' surface/checks.rs \
-    'release + rows.row[row].t' \
-    'release + rows.row[row].t - 1'
-wrong 'a falling release let through' surface/checks.rs '|| release < last' ''
+    'release + tasks[row][2]' \
+    'release + tasks[row][2] - 1'
+wrong 'a falling release let through' surface/checks.rs 'release < last || ' ''
 wrong 'the output touched on a refusal' surface/operations.rs \
     'let plan = search::plan' \
     'out[0] = 7; let plan = search::plan'
 wrong 'written behind the front' surface/operations.rs \
-    'out.iter_mut().zip(&plan[..rows.n])' \
+    'out.iter_mut().zip(&plan[..tasks.len()])' \
     'out.iter_mut().zip(&plan)'
 wrong 'the table written' surface/operations.rs \
     'verdict(lent(table' \
@@ -96,15 +97,15 @@ wrong 'the table written' surface/operations.rs \
 wrong 'a read behind a slice' surface/operations.rs \
     'fit(lent(planned, planned_len), buf_len)' \
     'fit(lent(planned, planned_len), buf_len.min(planned.add(planned_len).read_volatile() as usize))'
-wrong 'verdict with less in place of at most' surface/operations.rs '<= row.d' '< row.d'
-wrong 'a job in its region preempted' by_hand/play.rs 'running.filter(' 'running.filter(|_| false).filter('
-wrong 'a region one tick too long' by_hand/play.rs 'executed > rows' 'executed >= rows'
-wrong 'a lower rank before a higher' by_hand/play.rs '.position(' '.rposition('
-wrong 'a finish one tick early' by_hand/play.rs '= now as u32' '= now as u32 - 1'
+wrong 'verdict with less in place of at most' surface/operations.rs '<= *d' '< *d'
+wrong 'a job in its region preempted' by_hand/play.rs ' || rank.executed + until > rank.preemptible' ''
+wrong 'a region one tick too long' by_hand/play.rs '> rank.preemptible' '>= rank.preemptible'
+wrong 'a lower rank before a higher' by_hand/play.rs '.find(' '.rfind('
+wrong 'a finish one tick early' by_hand/play.rs 'out[job] = now' 'out[job] = now - 1'
 wrong 'a job that runs less than C given C' by_hand/play.rs \
-    'u64::from(jobs[head.job * 3 + 2]) -' \
-    'rows.row[row_of[at]].c -'
-wrong 'finishes cut to 31 bits' by_hand/play.rs '= now as u32' '= now as u32 & 0x7fff_ffff'
+    'jobs[job][2] - rank' \
+    'tasks[rank.row as usize][0] - rank'
+wrong 'finishes cut to 31 bits' by_hand/play.rs 'out[job] = now' 'out[job] = now & 0x7fff_ffff'
 wrong 'rounding down to ticks' surface/sheet.rs ' + tick - 1)' ')'
 wrong 'leading zeros let through' surface/sheet.rs 'longer == 0 || ' ''
 wrong 'a place of the sheet one too far' surface/sheet.rs \
@@ -117,34 +118,34 @@ wrong 'the last line feed not asked for' surface/sheet.rs \
         rows += 1' \
     'if cursor.at < text.len() { cursor.word(b"\n")?; }
         rows += 1'
-wrong 'a sheet of 32 lines refused' surface/sheet.rs 'rows == PLACES' 'rows == PLACES - 1'
+wrong 'a sheet of 32 lines refused' surface/sheet.rs 'rows == MOST_ROWS' 'rows == MOST_ROWS - 1'
 wrong 'a row'\''s printed numbers exchanged' surface/page.rs \
-    'sink.number(numbers[1]);
-        sink.word(b" response ");
-        sink.number(numbers[2]);' \
-    'sink.number(numbers[2]);
-        sink.word(b" response ");
-        sink.number(numbers[1]);'
+    '[rank, length, response]' \
+    '[rank, response, length]'
 wrong 'fit one byte short' surface/operations.rs \
     'checks::room(room, length)' \
     'checks::room(room.saturating_add(1), length)'
 wrong 'print that writes on a refusal' surface/operations.rs 'let length = fit' 'buffer.fill(0); let length = fit'
-wrong 'a tick of 1,001 let through' surface/sheet.rs 'cursor.number(1_000)' 'cursor.number(1_001)'
+wrong 'a tick of 1,001 let through' surface/sheet.rs 'MOST_TICK: u64 = 1_000' 'MOST_TICK: u64 = 1_001'
 wrong 'fit cuts its length to 32 bits' surface/operations.rs \
     'fit(lent(planned, planned_len), buf_len)' \
     'fit(lent(planned, planned_len), buf_len as u32 as usize)'
-wrong 'sums that wrap at 2^32' by_hand/response.rs \
-    '(t + r.t - 1) / r.t * r.c)' \
-    '(t + r.t - 1) / r.t * r.c) & 0xffff_ffff'
+wrong 'sums that wrap at 2^32' surface/trial.rs \
+    'let next = first + released(t - 1);' \
+    'let next = first + released(t - 1) & 0xffff_ffff;'
+wrong 'an inverse one too small' by_hand/level.rs '(1 << SHIFT) / u64::from(t) + 1' '(1 << SHIFT) / u64::from(t)'
+wrong 'inverses of 30 bits' by_hand/level.rs 'SHIFT: u32 = 40' 'SHIFT: u32 = 30'
+wrong 'ranks given to the wrong rows' by_hand/search.rs '        unplaced.copy_within(at + 1..rank, at);
+' ''
 wrong 'row 31 not tried at rank 32' by_hand/search.rs \
-    'let mut to_try = unplaced;' \
-    'let mut to_try = if unplaced == u32::MAX { unplaced >> 1 } else { unplaced };'
-wrong 'jobs past 100,000 not judged' by_hand/response.rs \
+    'in unplaced.iter().enumerate()' \
+    'in unplaced.iter().enumerate().take(MOST_ROWS - 1)'
+wrong 'jobs past 100,000 not judged' surface/trial.rs \
     'release >= self.active' \
     'release >= self.active.min(100_000 * t)'
 wrong 'more stack than the header says' by_hand/search.rs \
-    'let mut unplaced = all(rows);' \
-    'let mut unplaced = all(rows); core::hint::black_box([0u64; 512]);'
+    'let mut blocking = 0;' \
+    'let mut blocking = 0; core::hint::black_box([0u64; 512]);'
 
 echo "wrong.sh: $tried wrong versions, $missed missed"
 [ "$missed" -eq 0 ]

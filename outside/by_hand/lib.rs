@@ -1,8 +1,12 @@
-//! The product's algorithms by hand in Rust behind the same C names, to measure the product against.
+//! The product's algorithms by hand in Rust, in the fastest of the forms tried, to measure the
+//! product against.
 #![no_std]
 
+mod level;
 mod play;
 mod response;
 mod search;
 #[path = "../surface/mod.rs"]
 mod surface;
+#[path = "../surface/trial.rs"]
+mod trial;

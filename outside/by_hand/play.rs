@@ -1,60 +1,51 @@
-//! The kernel's run from decision to decision, at most two a job, with a state of 32 places.
+//! The kernel's run from decision to decision, with the rows in the order of their ranks.
 
-use crate::surface::rows::{Planned, Rows, PLACES};
+use crate::surface::rows::{Job, Plan, Task, MOST_ROWS};
 
-/// A row's earliest unfinished job, by its place in the list, and the ticks it has executed.
+/// A row by its rank: the row, how far a job of it can be preempted, its earliest unfinished job by
+/// its place in the list, and the ticks that this has executed.
 #[derive(Clone, Copy, Default)]
-struct Head {
-    job: usize,
-    executed: u64,
+struct Rank {
+    row: u32,
+    preemptible: u32,
+    job: u32,
+    executed: u32,
 }
 
-fn next_of_row(jobs: &[u32], row: usize, from: usize) -> usize {
-    let mut job = from;
-    while job * 3 < jobs.len() && jobs[job * 3] as usize != row {
-        job += 1;
-    }
-    job
+/// The place of the row's first job from `job` on.
+fn seek(jobs: &[Job], row: u32, from: usize) -> u32 {
+    let rest = &jobs[from..];
+    (from + rest.iter().position(|job| job[0] == row).unwrap_or(rest.len())) as u32
 }
 
-pub fn finishes(rows: &Rows, plan: &[Planned; PLACES], jobs: &[u32], out: &mut [u32]) {
-    let count = jobs.len() / 3;
-    let release = |job: usize| u64::from(jobs[job * 3 + 1]);
-    let mut row_of = [0; PLACES];
-    for (i, p) in plan[..rows.n].iter().enumerate() {
-        row_of[(p.rank as usize - 1) % PLACES] = i % PLACES;
+pub fn finishes(tasks: &[Task], plan: &Plan, jobs: &[Job], out: &mut [u32]) {
+    let mut ranks = [Rank::default(); MOST_ROWS];
+    for (i, ([c, ..], p)) in tasks.iter().zip(plan).enumerate() {
+        let row = i as u32;
+        ranks[(p.rank - 1) as usize % MOST_ROWS] =
+            Rank { row, preemptible: c - p.length, job: seek(jobs, row, 0), executed: 0 };
     }
-    let mut heads = [Head::default(); PLACES];
-    for (head, row) in heads.iter_mut().zip(row_of).take(rows.n) {
-        head.job = next_of_row(jobs, row, 0);
-    }
-    let (mut now, mut coming, mut left) = (0, 0, count);
-    let mut running: Option<usize> = None;
+    let ranks = &mut ranks[..tasks.len()];
+    let (mut now, mut coming, mut left) = (0, 0, jobs.len());
     while left != 0 {
-        while coming < count && release(coming) <= now {
+        while coming < jobs.len() && jobs[coming][1] <= now {
             coming += 1;
         }
-        let locked =
-            running.filter(|&at| heads[at].executed > rows.row[row_of[at]].c - u64::from(plan[row_of[at]].length));
-        let picked = locked.or_else(|| heads[..rows.n].iter().position(|head| head.job < coming));
-        let Some(at) = picked else {
-            now = release(coming);
+        let Some(rank) = ranks.iter_mut().find(|rank| rank.job < coming as u32) else {
+            now = jobs[coming][1];
             continue;
         };
-        let at = at % PLACES;
-        let head = &mut heads[at];
-        let remaining = u64::from(jobs[head.job * 3 + 2]) - head.executed;
-        let until = if locked.is_some() || coming == count { remaining } else { release(coming) - now };
-        if remaining <= until {
+        let job = rank.job as usize;
+        let remaining = jobs[job][2] - rank.executed;
+        let until = if coming == jobs.len() { remaining } else { jobs[coming][1] - now };
+        if remaining <= until || rank.executed + until > rank.preemptible {
             now += remaining;
-            out[head.job] = now as u32;
-            *head = Head { job: next_of_row(jobs, row_of[at], head.job + 1), executed: 0 };
-            running = None;
+            out[job] = now;
+            *rank = Rank { job: seek(jobs, rank.row, job + 1), executed: 0, ..*rank };
             left -= 1;
         } else {
             now += until;
-            head.executed += until;
-            running = Some(at);
+            rank.executed += until;
         }
     }
 }

@@ -1,69 +1,59 @@
-//! The choice of ranks and lengths: the rows without a rank are bits of one number, lengths are
-//! bisected, and a row is tried only if it can win.
+//! The choice of ranks and lengths, with the rows that have no rank side by side.
 
-use crate::response::{all, least_idle, Level};
+use crate::level::{released, runs, Asks};
 use crate::surface::answer::Refusal;
-use crate::surface::rows::{Planned, Rows, PLACES};
+use crate::surface::rows::{Plan, Planned, Task, MOST_ROWS};
+use crate::trial::{least_idle, Trial};
 
-/// The row found best so far at a rank.
+/// The row found best so far at a rank, by its place among the rows without one.
 #[derive(Clone, Copy)]
 struct Best {
-    row: usize,
+    at: usize,
     length: u64,
     response: u64,
 }
 
-/// The shortest passing length up to `cap`, with its response. Any longer one passes too.
-fn shortest(rows: &Rows, level: &Level, cap: u64) -> Option<(u64, u64)> {
-    let passes = |length| level.response(rows, length, level.own.d);
-    if let Some(response) = passes(1) {
-        return Some((1, response));
-    }
-    if cap == 1 {
-        return None;
-    }
-    let (mut fails, mut found) = (1, (cap, passes(cap)?));
-    while found.0 - fails > 1 {
-        let middle = fails + (found.0 - fails) / 2;
-        match passes(middle) {
-            Some(response) => found = (middle, response),
-            None => fails = middle,
-        }
-    }
-    Some(found)
-}
-
-fn best_of_rank(rows: &Rows, unplaced: u32, blocking: u64) -> Option<Best> {
-    let active = least_idle(rows, unplaced, blocking)?;
+/// Tries each row that can still win, with all others above it: it changes places with the last.
+fn best_of_rank(tasks: &[Task], unplaced: &[usize], level: &mut [Asks], blocking: u64) -> Option<Best> {
+    let first = blocking + runs(level);
+    let active = least_idle(first, |s| released(level, s))?;
+    let last = level.len() - 1;
     let mut best: Option<Best> = None;
-    let mut to_try = unplaced;
-    while to_try != 0 {
-        let row = to_try.trailing_zeros() as usize % PLACES;
-        to_try &= to_try - 1;
-        let own = rows.row[row];
-        let cap = best.map_or(own.c, |b| own.c.min(b.length - 1));
+    for (at, row) in unplaced.iter().enumerate() {
+        let own = tasks[*row];
+        let cap = best.map_or(u64::MAX, |b| b.length - 1).min(own[0].into());
         if cap == 0 {
             break;
         }
-        let level = Level { own, above: unplaced & !(1 << row), blocking, active };
-        if let Some((length, response)) = shortest(rows, &level, cap) {
-            best = Some(Best { row, length, response });
+        level.swap(at, last);
+        let above = &level[..last];
+        let trial = Trial { own, first, active, released: move |s| released(above, s) };
+        if let Some((length, response)) = trial.shortest(cap) {
+            best = Some(Best { at, length, response });
         }
+        level.swap(at, last);
     }
     best
 }
 
-pub fn plan(rows: &Rows) -> Result<[Planned; PLACES], Refusal> {
-    let mut unplaced = all(rows);
-    least_idle(rows, unplaced, 0).ok_or(Refusal(4, 0))?;
-    let mut plan = [Planned::default(); PLACES];
+pub fn plan(tasks: &[Task]) -> Result<Plan, Refusal> {
+    let mut level = [Asks::default(); MOST_ROWS];
+    let mut unplaced = [0; MOST_ROWS];
+    for (i, task) in tasks.iter().enumerate() {
+        level[i] = Asks::of(*task);
+        unplaced[i] = i;
+    }
+    let all = &level[..tasks.len()];
+    least_idle(runs(all), |s| released(all, s)).ok_or(Refusal(4, 0))?;
+    let mut plan = [Planned::default(); MOST_ROWS];
     let mut blocking = 0;
-    while unplaced != 0 {
-        let best = best_of_rank(rows, unplaced, blocking).ok_or(Refusal(5, 0))?;
-        let rank = unplaced.count_ones();
-        plan[best.row % PLACES] = Planned { rank, length: best.length as u32, response: best.response as u32 };
-        blocking = blocking.max(best.length - 1);
-        unplaced &= !(1 << best.row);
+    for rank in (1..=tasks.len()).rev() {
+        let best = best_of_rank(tasks, &unplaced[..rank], &mut level[..rank], blocking).ok_or(Refusal(5, 0))?;
+        let Best { at, length, response } = best;
+        plan[unplaced[at]] = Planned { rank: rank as u32, length: length as u32, response: response as u32 };
+        blocking = blocking.max(length - 1);
+        level.copy_within(at + 1..rank, at);
+        unplaced.copy_within(at + 1..rank, at);
     }
     Ok(plan)
 }

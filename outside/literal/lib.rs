@@ -2,6 +2,8 @@
 //! runs tick by tick.
 #![no_std]
 
+#[path = "../surface/places.rs"]
+mod places;
 mod play;
 mod response;
 mod search;

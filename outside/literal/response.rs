@@ -1,6 +1,7 @@
 //! Responses with every fixed point iterated from its lowest value.
 
-use crate::surface::rows::{Planned, Row, Rows, HORIZON, PLACES};
+use crate::places::{Row, Rows};
+use crate::surface::rows::{Plan, Task, HORIZON, MOST_ROWS};
 use crate::work;
 
 /// Iterates a right side from `from` until it repeats, exceeds the horizon, or the work is over.
@@ -20,10 +21,10 @@ fn least_fixed(from: u64, right_side: impl Fn(u64) -> u64) -> Option<u64> {
 }
 
 /// Which rows take part, by their place.
-pub type Chosen = [bool; PLACES];
+pub type Chosen = [bool; MOST_ROWS];
 
 fn sum(rows: &Rows, chosen: &Chosen, of: impl Fn(&Row) -> u64) -> u64 {
-    rows.all().iter().zip(chosen).filter(|(_, chosen)| **chosen).map(|(row, _)| of(row)).sum()
+    rows.row[..rows.n].iter().zip(chosen).filter(|(_, chosen)| **chosen).map(|(row, _)| of(row)).sum()
 }
 
 fn least_idle(rows: &Rows, chosen: &Chosen, extra: u64) -> Option<u64> {
@@ -31,12 +32,12 @@ fn least_idle(rows: &Rows, chosen: &Chosen, extra: u64) -> Option<u64> {
 }
 
 pub fn busy_period(rows: &Rows) -> Option<u64> {
-    least_idle(rows, &[true; PLACES], 0)
+    least_idle(rows, &[true; MOST_ROWS], 0)
 }
 
 /// The response of row i below the rows above it, left at the first job that passes `limit`.
 pub fn response(rows: &Rows, i: usize, above: &Chosen, blocking: u64, length: u64, limit: u64) -> Option<u64> {
-    let Row { c, t, .. } = rows.row[i];
+    let Row { c, t } = rows.row[i];
     let mut level = *above;
     level[i] = true;
     let active = least_idle(rows, &level, blocking)?;
@@ -53,11 +54,12 @@ pub fn response(rows: &Rows, i: usize, above: &Chosen, blocking: u64, length: u6
     Some(largest)
 }
 
-pub fn responses(rows: &Rows, plan: &mut [Planned; PLACES]) -> Option<()> {
+pub fn responses(tasks: &[Task], plan: &mut Plan) -> Option<()> {
+    let rows = &Rows::of(tasks);
     work::begin();
     busy_period(rows)?;
     for i in 0..rows.n {
-        let mut above = [false; PLACES];
+        let mut above = [false; MOST_ROWS];
         let mut blocking = 0;
         for j in 0..rows.n {
             above[j] = plan[j].rank < plan[i].rank;

@@ -1,72 +1,62 @@
 //! The refusals of tables, plans and job lists, each in one pass.
 
 use super::answer::Refusal;
-use super::rows::{Planned, Row, Rows, MOST, PLACES};
+use super::rows::{Job, Plan, Planned, Task, JOB_WIDTH, MOST, MOST_JOBS, MOST_ROWS, PLAN_WIDTH};
 
-pub const MOST_JOBS: usize = 4_096;
-
-pub fn shape(table: &[u32]) -> Result<usize, Refusal> {
-    let rows = table.len() / 3;
-    if table.len() % 3 != 0 || rows == 0 || rows > PLACES {
+pub fn shape<const WIDTH: usize>(numbers: &[u32]) -> Result<&[[u32; WIDTH]], Refusal> {
+    let (rows, rest) = numbers.as_chunks();
+    if !rest.is_empty() || rows.is_empty() || rows.len() > MOST_ROWS {
         return Err(Refusal(1, 0));
     }
     Ok(rows)
 }
 
-pub fn table(table: &[u32]) -> Result<Rows, Refusal> {
-    let n = shape(table)?;
-    let mut rows = Rows { row: [Row::default(); PLACES], n };
-    for (i, v) in table.iter().enumerate() {
-        if *v == 0 || u64::from(*v) > MOST {
+pub fn table(numbers: &[u32]) -> Result<&[Task], Refusal> {
+    let tasks = shape(numbers)?;
+    for (i, v) in numbers.iter().enumerate() {
+        if *v == 0 || *v > MOST {
             return Err(Refusal(3, i));
         }
     }
-    for (row, numbers) in rows.row.iter_mut().zip(table.chunks_exact(3)) {
-        *row = Row { c: numbers[0].into(), d: numbers[1].into(), t: numbers[2].into() };
-    }
-    Ok(rows)
+    Ok(tasks)
 }
 
-pub fn plan(rows: &Rows, plan: &[u32]) -> Result<[Planned; PLACES], Refusal> {
-    if plan.len() != 2 * rows.n {
-        return Err(Refusal(6, PLACES));
+pub fn plan(tasks: &[Task], numbers: &[u32]) -> Result<Plan, Refusal> {
+    let (rows, rest) = numbers.as_chunks::<PLAN_WIDTH>();
+    if !rest.is_empty() || rows.len() != tasks.len() {
+        return Err(Refusal(6, MOST_ROWS));
     }
-    let mut placed = [Planned::default(); PLACES];
+    let mut plan = [Planned::default(); MOST_ROWS];
     let mut seen = 0u64;
-    for (i, (numbers, row)) in plan.chunks_exact(2).zip(rows.all()).enumerate() {
-        let (rank, length) = (numbers[0], numbers[1]);
-        let fits = rank >= 1 && rank as usize <= rows.n && seen >> rank & 1 == 0;
-        if !fits || length == 0 || u64::from(length) > row.c {
+    for (i, (&[rank, length], [c, ..])) in rows.iter().zip(tasks).enumerate() {
+        let fits = rank >= 1 && rank as usize <= tasks.len() && seen >> rank & 1 == 0;
+        if !fits || length == 0 || length > *c {
             return Err(Refusal(6, i));
         }
         seen |= 1 << rank;
-        placed[i] = Planned { rank, length, response: 0 };
+        plan[i] = Planned { rank, length, response: 0 };
     }
-    Ok(placed)
+    Ok(plan)
 }
 
 /// The last release and each row's last release suffice to see a pair at fault.
-pub fn jobs(rows: &Rows, jobs: &[u32]) -> Result<usize, Refusal> {
-    if jobs.len() % 3 != 0 || jobs.len() / 3 > MOST_JOBS {
+pub fn jobs<'a>(tasks: &[Task], numbers: &'a [u32]) -> Result<&'a [Job], Refusal> {
+    let (jobs, rest) = numbers.as_chunks::<JOB_WIDTH>();
+    if !rest.is_empty() || jobs.len() > MOST_JOBS {
         return Err(Refusal(7, 0));
     }
-    let mut earliest = [0u64; PLACES];
+    let mut earliest = [0; MOST_ROWS];
     let mut last = 0;
-    for (i, job) in jobs.chunks_exact(3).enumerate() {
-        let (row, release, run) = (job[0] as usize, u64::from(job[1]), u64::from(job[2]));
-        if row >= rows.n
-            || release > MOST
-            || release < last
-            || run == 0
-            || run > rows.row[row].c
-            || release < earliest[row]
-        {
+    for (i, &[row, release, run]) in jobs.iter().enumerate() {
+        let row = row as usize;
+        let fits = row < tasks.len() && run >= 1 && run <= tasks[row][0] && release <= MOST;
+        if !fits || release < last || release < earliest[row] {
             return Err(Refusal(8, i));
         }
         last = release;
-        earliest[row] = release + rows.row[row].t;
+        earliest[row] = release + tasks[row][2];
     }
-    Ok(jobs.len() / 3)
+    Ok(jobs)
 }
 
 pub fn room(have: usize, need: usize) -> Result<(), Refusal> {

@@ -3,6 +3,7 @@
 use core::slice::{from_raw_parts, from_raw_parts_mut};
 
 use super::answer::{Answer, Refusal};
+use super::rows::PLANNED_WIDTH;
 use super::{checks, page, sheet};
 use crate::{play, response, search};
 
@@ -24,40 +25,41 @@ unsafe fn lent_to_write<'a, T>(start: *mut T, length: usize) -> &'a mut [T] {
 }
 
 fn plan(table: &[u32], out: &mut [u32]) -> Result<u64, Refusal> {
-    let rows = checks::table(table)?;
-    checks::room(out.len(), table.len())?;
-    let plan = search::plan(&rows)?;
-    for (part, p) in out.chunks_exact_mut(3).zip(&plan[..rows.n]) {
+    let tasks = checks::table(table)?;
+    let length = PLANNED_WIDTH * tasks.len();
+    checks::room(out.len(), length)?;
+    let plan = search::plan(tasks)?;
+    for (part, p) in out.chunks_exact_mut(PLANNED_WIDTH).zip(&plan[..tasks.len()]) {
         part.copy_from_slice(&[p.rank, p.length, p.response]);
     }
-    Ok(table.len() as u64)
+    Ok(length as u64)
 }
 
 fn times(table: &[u32], plan: &[u32], out: &mut [u32]) -> Result<u64, Refusal> {
-    let rows = checks::table(table)?;
-    let mut plan = checks::plan(&rows, plan)?;
-    checks::room(out.len(), rows.n)?;
-    response::responses(&rows, &mut plan).ok_or(Refusal(4, 0))?;
-    for (place, p) in out.iter_mut().zip(&plan[..rows.n]) {
+    let tasks = checks::table(table)?;
+    let mut plan = checks::plan(tasks, plan)?;
+    checks::room(out.len(), tasks.len())?;
+    response::responses(tasks, &mut plan).ok_or(Refusal(4, 0))?;
+    for (place, p) in out.iter_mut().zip(&plan[..tasks.len()]) {
         *place = p.response;
     }
-    Ok(rows.n as u64)
+    Ok(tasks.len() as u64)
 }
 
 fn verdict(table: &[u32], plan: &[u32]) -> Result<u64, Refusal> {
-    let rows = checks::table(table)?;
-    let mut plan = checks::plan(&rows, plan)?;
-    response::responses(&rows, &mut plan).ok_or(Refusal(4, 0))?;
-    Ok(rows.all().iter().zip(&plan).all(|(row, p)| u64::from(p.response) <= row.d).into())
+    let tasks = checks::table(table)?;
+    let mut plan = checks::plan(tasks, plan)?;
+    response::responses(tasks, &mut plan).ok_or(Refusal(4, 0))?;
+    Ok(tasks.iter().zip(&plan).all(|([_, d, _], p)| p.response <= *d).into())
 }
 
 fn play(table: &[u32], plan: &[u32], jobs: &[u32], out: &mut [u32]) -> Result<u64, Refusal> {
-    let rows = checks::table(table)?;
-    let plan = checks::plan(&rows, plan)?;
-    let count = checks::jobs(&rows, jobs)?;
-    checks::room(out.len(), count)?;
-    play::finishes(&rows, &plan, jobs, out);
-    Ok(count as u64)
+    let tasks = checks::table(table)?;
+    let plan = checks::plan(tasks, plan)?;
+    let jobs = checks::jobs(tasks, jobs)?;
+    checks::room(out.len(), jobs.len())?;
+    play::finishes(tasks, &plan, jobs, out);
+    Ok(jobs.len() as u64)
 }
 
 fn sheet(text: &[u8], out: &mut [u32]) -> Result<u64, Refusal> {
@@ -68,15 +70,14 @@ fn sheet(text: &[u8], out: &mut [u32]) -> Result<u64, Refusal> {
 }
 
 fn fit(planned: &[u32], room: usize) -> Result<u64, Refusal> {
-    checks::shape(planned)?;
-    let length = page::length(planned);
+    let length = page::length(checks::shape(planned)?);
     checks::room(room, length)?;
     Ok(length as u64)
 }
 
 fn print(planned: &[u32], buffer: &mut [u8]) -> Result<u64, Refusal> {
     let length = fit(planned, buffer.len())?;
-    page::write(planned, buffer);
+    page::write(checks::shape(planned)?, buffer);
     Ok(length)
 }
 

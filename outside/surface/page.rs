@@ -1,5 +1,7 @@
 //! A planned table as text: first measured, then written.
 
+use super::rows::PLANNED_WIDTH;
+
 fn digits(mut value: u32) -> usize {
     let mut count = 1;
     while value >= 10 {
@@ -48,28 +50,28 @@ impl Sink for Page<'_> {
     }
 }
 
-fn text(planned: &[u32], sink: &mut impl Sink) {
+fn text(planned: &[[u32; PLANNED_WIDTH]], sink: &mut impl Sink) {
     sink.word(b"plan ");
-    sink.number(planned.len() as u32 / 3);
-    for (row, numbers) in planned.chunks_exact(3).enumerate() {
+    sink.number(planned.len() as u32);
+    for (row, [rank, length, response]) in planned.iter().enumerate() {
         sink.word(b"\nrow ");
         sink.number(row as u32);
         sink.word(b" rank ");
-        sink.number(numbers[0]);
+        sink.number(*rank);
         sink.word(b" length ");
-        sink.number(numbers[1]);
+        sink.number(*length);
         sink.word(b" response ");
-        sink.number(numbers[2]);
+        sink.number(*response);
     }
     sink.word(b"\n");
 }
 
-pub fn length(planned: &[u32]) -> usize {
+pub fn length(planned: &[[u32; PLANNED_WIDTH]]) -> usize {
     let mut length = Length(0);
     text(planned, &mut length);
     length.0
 }
 
-pub fn write(planned: &[u32], buffer: &mut [u8]) {
+pub fn write(planned: &[[u32; PLANNED_WIDTH]], buffer: &mut [u8]) {
     text(planned, &mut Page { buffer, at: 0 });
 }

@@ -1,15 +1,20 @@
-//! Checked task rows in an array of 32 places.
+//! Rows and jobs as they are lent, and their widths.
 
-pub const MOST: u64 = 1_000_000;
+pub const MOST: u32 = 1_000_000;
 pub const HORIZON: u64 = 1_000_000;
-pub const PLACES: usize = 32;
+pub const MOST_ROWS: usize = 32;
+pub const MOST_JOBS: usize = 4_096;
 
-#[derive(Clone, Copy, Default)]
-pub struct Row {
-    pub c: u64,
-    pub d: u64,
-    pub t: u64,
-}
+pub const ROW_WIDTH: usize = 3;
+pub const PLAN_WIDTH: usize = 2;
+pub const PLANNED_WIDTH: usize = 3;
+pub const JOB_WIDTH: usize = 3;
+
+/// A task's C, D and T.
+pub type Task = [u32; ROW_WIDTH];
+
+/// A job's row, release and run.
+pub type Job = [u32; JOB_WIDTH];
 
 /// A row's rank, length and response.
 #[derive(Clone, Copy, Default)]
@@ -19,14 +24,4 @@ pub struct Planned {
     pub response: u32,
 }
 
-#[derive(Clone, Copy)]
-pub struct Rows {
-    pub row: [Row; PLACES],
-    pub n: usize,
-}
-
-impl Rows {
-    pub fn all(&self) -> &[Row] {
-        &self.row[..self.n]
-    }
-}
+pub type Plan = [Planned; MOST_ROWS];

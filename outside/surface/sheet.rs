@@ -2,7 +2,11 @@
 //! went wrong.
 
 use super::answer::Refusal;
-use super::rows::{MOST, PLACES};
+use super::rows::{MOST, MOST_ROWS, ROW_WIDTH};
+
+const MOST_NUMBERS: usize = ROW_WIDTH * MOST_ROWS;
+const MOST_TICK: u64 = 1_000;
+const MOST_TIME: u64 = 1_000_000_000;
 
 /// What is left to read, by its place.
 struct Cursor<'a> {
@@ -42,31 +46,32 @@ impl Cursor<'_> {
     }
 }
 
-pub fn table(text: &[u8]) -> Result<([u32; 3 * PLACES], usize), Refusal> {
+pub fn table(text: &[u8]) -> Result<([u32; MOST_NUMBERS], usize), Refusal> {
     let mut cursor = Cursor { text, at: 0 };
     cursor.word(b"tick ")?;
-    let tick = cursor.number(1_000)?;
+    let tick = cursor.number(MOST_TICK)?;
     cursor.word(b"\n")?;
-    let mut ticks = [0u64; 3 * PLACES];
+    let mut ticks = [0u64; MOST_NUMBERS];
     let mut rows = 0;
     while rows == 0 || cursor.at < text.len() {
-        if rows == PLACES {
+        if rows == MOST_ROWS {
             return Err(Refusal(9, cursor.at));
         }
         cursor.word(b"task")?;
-        for value in ticks[3 * rows..3 * rows + 3].iter_mut() {
+        for value in ticks[ROW_WIDTH * rows..][..ROW_WIDTH].iter_mut() {
             cursor.word(b" ")?;
-            *value = (cursor.number(1_000_000_000)? + tick - 1) / tick;
+            *value = (cursor.number(MOST_TIME)? + tick - 1) / tick;
         }
         cursor.word(b"\n")?;
         rows += 1;
     }
-    let mut table = [0; 3 * PLACES];
-    for (i, (number, value)) in table.iter_mut().zip(ticks).take(3 * rows).enumerate() {
-        if value > MOST {
+    let length = ROW_WIDTH * rows;
+    let mut table = [0; MOST_NUMBERS];
+    for (i, (number, value)) in table.iter_mut().zip(ticks).take(length).enumerate() {
+        if value > MOST.into() {
             return Err(Refusal(3, i));
         }
         *number = value as u32;
     }
-    Ok((table, 3 * rows))
+    Ok((table, length))
 }
