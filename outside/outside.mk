@@ -50,18 +50,22 @@ $(OUTSIDE)/bench: $(wildcard outside/bench/*.rs) $(OUTSIDE)/libcommon.rlib
 
 # x86-64: the bridge over the product, the two hand-written versions and the literal search; the example.
 
-VERSIONS := by_hand by_marks literal
+$(OUTSIDE)/bridge.o $(OUTSIDE)/shifted.o: outside/bridge/bridge.c include/templetbark.h | $(OUTSIDE)
+	$(X86_CC) -ffreestanding $(if $(findstring shifted,$@),-DSHIFTED) -c $< -o $@
 
-$(OUTSIDE)/bridge.o: outside/bridge/bridge.c include/templetbark.h | $(OUTSIDE)
-	$(X86_CC) -ffreestanding -c $< -o $@
-
-$(OUTSIDE)/%.o: outside/%/lib.rs $(wildcard $(patsubst %,outside/%/*.rs,surface $(VERSIONS))) outside/to_x86_64.sh | $(OUTSIDE)
+VERSION_FILES := $(wildcard $(foreach folder,surface by_hand by_marks literal,outside/$(folder)/*.rs))
+$(OUTSIDE)/%.o: outside/%/lib.rs $(VERSION_FILES) outside/to_x86_64.sh | $(OUTSIDE)
 	outside/to_x86_64.sh $< $@ $(X86_CLANG)
 
-$(OUTSIDE)/bridge-product: archive-is-there $(OUTSIDE)/bridge.o
-	$(X86_LINK) $@ $(OUTSIDE)/bridge.o $(ARCHIVE)
+.PRECIOUS: $(OUTSIDE)/%.o
+
+$(OUTSIDE)/%-product: archive-is-there $(OUTSIDE)/%.o
+	$(X86_LINK) $@ $(OUTSIDE)/$*.o $(ARCHIVE)
 
 $(OUTSIDE)/bridge-%: $(OUTSIDE)/bridge.o $(OUTSIDE)/%.o
+	$(X86_LINK) $@ $^
+
+$(OUTSIDE)/shifted-%: $(OUTSIDE)/shifted.o $(OUTSIDE)/%.o
 	$(X86_LINK) $@ $^
 
 $(OUTSIDE)/plan_and_play: archive-is-there examples/plan_and_play.c include/templetbark.h | $(OUTSIDE)
@@ -84,7 +88,8 @@ outside-wrong: tools-are-there $(OUTSIDE)/compare $(OUTSIDE)/bridge-by_hand
 	$(OUTSIDE)/compare $(X86_RUN) $(OUTSIDE)/bridge-by_hand
 	outside/wrong.sh $(OUTSIDE) $(X86_CLANG) '$(X86_LINK)' '$(X86_RUN)'
 
-# The library beside the hand-written version and the literal search, for docs/PERFORMANCE.md.
-bench: tools-are-there $(OUTSIDE)/bench $(OUTSIDE)/bridge-product $(OUTSIDE)/bridge-by_hand $(OUTSIDE)/bridge-literal
-	$(OUTSIDE)/bench '$(X86_RUN) $(OUTSIDE)/bridge-product' '$(X86_RUN) $(OUTSIDE)/bridge-by_hand' \
-		'$(X86_RUN) $(OUTSIDE)/bridge-literal own-stack'
+# The library beside the two hand-written versions and the literal search, for docs/PERFORMANCE.md.
+MEASURED := product by_hand by_marks
+bench: tools-are-there $(OUTSIDE)/bench $(OUTSIDE)/bridge-literal \
+		$(foreach version,$(MEASURED),$(OUTSIDE)/bridge-$(version) $(OUTSIDE)/shifted-$(version))
+	$(OUTSIDE)/bench '$(X86_RUN)' $(OUTSIDE)

@@ -3,25 +3,35 @@
 
 use common::bridge::{bytes, Call, Operation};
 use common::random::Random;
+use common::widths::{jobs_of, rows_of, MOST_JOBS, MOST_ROWS, MOST_TABLE_NUMBERS, PLANNED_WIDTH, TIMES_WIDTH};
 
 const M: u32 = 1_000_000;
+const ROWS: u32 = MOST_ROWS as u32;
+
+/// The bytes of a text buffer.
+const BUFFER: u64 = 4_096;
 
 /// The plan that times and play are measured with: ranks in table order, lengths of 1.
 fn in_table_order(table: &[u32]) -> Vec<u32> {
-    (1..=table.len() as u32 / 3).flat_map(|rank| [rank, 1]).collect()
+    (1..=rows_of(table) as u32).flat_map(|rank| [rank, 1]).collect()
+}
+
+fn output(numbers: usize) -> Vec<u8> {
+    bytes(&vec![0; numbers])
 }
 
 fn plan_of(table: &[u32]) -> Call {
-    Call { operation: Operation::Plan, slices: vec![bytes(table), vec![0; 4 * table.len()]], number: 0 }
+    let slices = vec![bytes(table), output(PLANNED_WIDTH * rows_of(table))];
+    Call { operation: Operation::Plan, slices, number: 0 }
 }
 
 fn times_of(table: &[u32]) -> Call {
-    let slices = vec![bytes(table), bytes(&in_table_order(table)), vec![0; 4 * table.len() / 3]];
+    let slices = vec![bytes(table), bytes(&in_table_order(table)), output(TIMES_WIDTH * rows_of(table))];
     Call { operation: Operation::Times, slices, number: 0 }
 }
 
 fn play_of(table: &[u32], jobs: &[u32]) -> Call {
-    let slices = vec![bytes(table), bytes(&in_table_order(table)), bytes(jobs), vec![0; 4 * jobs.len() / 3]];
+    let slices = vec![bytes(table), bytes(&in_table_order(table)), bytes(jobs), output(jobs_of(jobs))];
     Call { operation: Operation::Play, slices, number: 0 }
 }
 
@@ -84,8 +94,8 @@ pub fn long_active_periods() -> Vec<(&'static str, Call)> {
 
 /// 32 rows with lengths of 1, so many jobs, the runs given by the job's number.
 fn run(t: u32, c: u32, jobs: u32, run: impl Fn(u32) -> u32) -> Call {
-    let list: Vec<u32> = (0..jobs).flat_map(|job| [job % 32, job / 32 * t, run(job)]).collect();
-    play_of(&[c, M, t].repeat(32), &list)
+    let list: Vec<u32> = (0..jobs).flat_map(|job| [job % ROWS, job / ROWS * t, run(job)]).collect();
+    play_of(&[c, M, t].repeat(MOST_ROWS), &list)
 }
 
 /// Each row's job is finished before its next.
@@ -101,24 +111,22 @@ pub fn flood(jobs: u32) -> Call {
 /// Each job is preempted after two of its three ticks by the next, of higher rank, until the lowest
 /// rank comes round again.
 pub fn preempted(jobs: u32) -> Call {
-    let list: Vec<u32> = (0..jobs).flat_map(|job| [31 - job % 32, job * 2, 3]).collect();
-    play_of(&[3, M, 64].repeat(32), &list)
+    let list: Vec<u32> = (0..jobs).flat_map(|job| [ROWS - 1 - job % ROWS, job * 2, 3]).collect();
+    play_of(&[3, M, 64].repeat(MOST_ROWS), &list)
 }
 
 pub fn longest_run() -> Call {
-    run(7_000, M, 4_096, |_| M)
+    run(7_000, M, MOST_JOBS as u32, |_| M)
 }
 
 pub fn texts() -> Vec<(&'static str, Call)> {
     let line = b"task 1000000 2000000 3000000\n";
-    let sheet = [&b"tick 1000\n"[..], &line.repeat(32)].concat();
-    let planned: Vec<u32> = (0..32).flat_map(|row| [row + 1, 1_000 * row + 1, M - row]).collect();
+    let sheet = [&b"tick 1000\n"[..], &line.repeat(MOST_ROWS)].concat();
+    let planned = bytes(&(0..ROWS).flat_map(|row| [row + 1, 1_000 * row + 1, M - row]).collect::<Vec<_>>());
+    let call = |operation, slices| Call { operation, slices, number: BUFFER };
     vec![
-        ("sheet of 32 rows", Call { operation: Operation::Sheet, slices: vec![sheet, vec![0; 4 * 96]], number: 0 }),
-        (
-            "print of 32 rows",
-            Call { operation: Operation::Print, slices: vec![bytes(&planned), vec![0; 4_096]], number: 0 },
-        ),
-        ("fit of 32 rows", Call { operation: Operation::Fit, slices: vec![bytes(&planned)], number: 4_096 }),
+        ("sheet of 32 rows", call(Operation::Sheet, vec![sheet, output(MOST_TABLE_NUMBERS)])),
+        ("print of 32 rows", call(Operation::Print, vec![planned.clone(), vec![0; BUFFER as usize]])),
+        ("fit of 32 rows", call(Operation::Fit, vec![planned])),
     ]
 }

@@ -1,22 +1,19 @@
-//! Measures the library beside the hand-written version and the literal search, in one run, as
+//! Measures the library beside the two hand-written versions and the literal search, in one run, as
 //! tables in markdown.
+//!
+//! bench 'RUN WORDS' FOLDER: FOLDER has each version's bridges.
 
 mod families;
 mod measure;
 mod report;
 
-use common::bridge::Bridge;
 use measure::Versions;
 
 fn main() -> std::io::Result<()> {
     let words: Vec<String> = std::env::args().skip(1).collect();
-    let start = |at: usize| -> std::io::Result<Bridge> {
-        let words: Vec<String> = words.get(at).map_or("", |w| w).split_whitespace().map(String::from).collect();
-        Bridge::start(&words)
-    };
-    let mut versions = Versions { library: start(0)?, by_hand: start(1)?, literal: start(2)? };
-    let emulated = words.iter().any(|word| word.contains("qemu"));
-    report::heading(emulated);
+    let [run, folder] = &words[..] else { return Err(std::io::Error::other("bench 'RUN WORDS' FOLDER")) };
+    let mut versions = Versions::start(run, folder)?;
+    report::heading(run.contains("qemu"));
     report::realistic_plans(&mut versions)?;
     report::hard_cases(&mut versions)?;
     report::growth_of_play(&mut versions)

@@ -30,13 +30,14 @@ fn microseconds(nanoseconds: f64) -> String {
 
 fn line(name: &str, times: &Times) {
     let literal = times.literal.map_or("-".into(), |literal| format!("{:.1}", literal / times.library));
-    let (library, by_hand) = (microseconds(times.library), microseconds(times.by_hand));
-    println!("| {name} | {library} | {by_hand} | {:.2} | {literal} |", times.library / times.by_hand);
+    let (library, peer) = (microseconds(times.library), microseconds(times.peer));
+    let [ratio, marks] = [times.library, times.by_marks].map(|time| time / times.peer);
+    println!("| {name} | {library} | {peer} | {ratio:.2} | {marks:.2} | {literal} |");
 }
 
 fn table_head() {
-    println!("| Family | library, µs | hand-written, µs | library / hand-written | literal / library |");
-    println!("|---|---|---|---|---|");
+    println!("| Family | library, µs | peer, µs | library / peer | by marks / peer | literal / library |");
+    println!("|---|---|---|---|---|---|");
 }
 
 /// Plans of realistic tables, and then how their cost grows.

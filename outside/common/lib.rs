@@ -1,4 +1,5 @@
-//! What the comparison and the benchmark share: calls over the bridge, and random numbers.
+//! What the comparison and the benchmark share: calls over the bridge, widths, and random numbers.
 
 pub mod bridge;
 pub mod random;
+pub mod widths;
