@@ -46,7 +46,9 @@ wrong() {
 wrong 'refuses everything' by_hand/search.rs 'Ok(plan)' 'Err(Refusal(5, 0))'
 wrong 'judges the first job only' surface/trial.rs 'release >= self.active' 'release >= t'
 wrong 'judges one job fewer' surface/trial.rs 'release >= self.active' 'release + t >= self.active'
-wrong 'the ceiling in place of floor plus one' surface/trial.rs '(self.released)(start)' '(self.released)(start.max(1) - 1)'
+wrong 'the ceiling in place of floor plus one' surface/trial.rs \
+    '(self.released)(start)' \
+    '(self.released)(start.max(1) - 1)'
 wrong 'times with blocking at the full length' by_hand/response.rs 'blocking.max(length - 1)' 'blocking.max(length)'
 wrong 'plan with blocking at the full length' by_hand/search.rs 'blocking.max(length - 1)' 'blocking.max(length)'
 wrong 'a response one tick too large' surface/trial.rs 'Some(largest)' 'Some(largest + 1)'

@@ -66,19 +66,28 @@ pub fn realistic(rows: usize, utilisation: f64) -> Vec<Call> {
     (0..20).map(table).collect()
 }
 
-fn rows_and(ones: usize, others: &[[u32; 3]]) -> Vec<u32> {
-    [[1, M, M].repeat(ones), others.concat()].concat()
-}
-
+/// Tables of which a search for slow ones found the like: at every rank many rows are tried over
+/// long active periods.
 pub fn hard() -> Vec<(&'static str, Call)> {
-    let many_releases = rows_and(27, &[[1_639, M, M], [1, M, 2], [1, M, 3], [1, M, 8], [1, M, 25]]);
-    let tight_deadline = rows_and(27, &[[6_383, 6_537, M], [1, M, 3], [1, M, 3], [1, M, 4], [1, M, 13]]);
-    let never_passes = rows_and(31, &[[900_000, 899_999, M]]);
-    vec![
-        ("plan: 27 rows (1,M,M), one of C 1,639, spacings 2, 3, 8, 25", plan_of(&many_releases)),
-        ("plan: 27 rows (1,M,M), one (6383,6537,M), spacings 3, 3, 4, 13", plan_of(&tight_deadline)),
-        ("plan: 31 rows (1,M,M), one (900000,899999,M)", plan_of(&never_passes)),
-    ]
+    let ones = |d: u32, rows: usize| [1, d, M].repeat(rows);
+    let many_releases = [1_639, M, M, 1, M, 2, 1, M, 3, 1, M, 8, 1, M, 25];
+    let tight_deadline = [6_383, 6_537, M, 1, M, 3, 1, M, 3, 1, M, 4, 1, M, 13];
+    let all_but_one_fail = [1, 3_000, 3, 1, 5_000, 8, 1, 30_000, 25, 1_639, 30_000, M, 1, M, 2];
+    let ones_last = [1, M, 2, 1, M, 3, 1, M, 8, 1, M, 25, 1_639, M, M];
+    let refused = [6_382, 1_633, M, 1, 13, 3, 1, 19_769, 3, 1, 67_162, 4, 1, 17_555, 13];
+    let never_passes = [900_000, 899_999, M];
+    let tables = [
+        ("plan: 27 rows (1,M,M), one of C 1,639, spacings 2, 3, 8, 25", [ones(M, 27), many_releases.to_vec()]),
+        ("plan: 27 rows (1,M,M), one (6383,6537,M), spacings 3, 3, 4, 13", [ones(M, 27), tight_deadline.to_vec()]),
+        (
+            "plan: 27 rows (1,999000,M), spacings 3, 8, 25, one of C 1,639",
+            [ones(999_000, 27), all_but_one_fail.to_vec()],
+        ),
+        ("plan: spacings 2, 3, 8, 25, one of C 1,639, 27 rows (1,M,M)", [ones_last.to_vec(), ones(M, 27)]),
+        ("plan: 27 rows (1,999000,M), one (6382,1633,M), refused", [ones(999_000, 27), refused.to_vec()]),
+        ("plan: 31 rows (1,M,M), one (900000,899999,M)", [ones(M, 31), never_passes.to_vec()]),
+    ];
+    tables.into_iter().map(|(name, parts)| (name, plan_of(&parts.concat()))).collect()
 }
 
 pub fn long_active_periods() -> Vec<(&'static str, Call)> {

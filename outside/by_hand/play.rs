@@ -12,10 +12,16 @@ struct Rank {
     executed: u32,
 }
 
-/// The place of the row's first job from `job` on.
+/// The place of the row's first job from `from` on.
 fn seek(jobs: &[Job], row: u32, from: usize) -> u32 {
-    let rest = &jobs[from..];
-    (from + rest.iter().position(|job| job[0] == row).unwrap_or(rest.len())) as u32
+    let mut rest = &jobs[from..];
+    while let [first, behind @ ..] = rest {
+        if first[0] == row {
+            break;
+        }
+        rest = behind;
+    }
+    (jobs.len() - rest.len()) as u32
 }
 
 pub fn finishes(tasks: &[Task], plan: &Plan, jobs: &[Job], out: &mut [u32]) {
