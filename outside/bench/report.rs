@@ -5,10 +5,12 @@ use std::io;
 
 use crate::families;
 use crate::measure::{measure, Times, Versions};
+use common::widths::{MOST_JOBS, MOST_ROWS};
 
-const ROWS: [usize; 4] = [4, 8, 16, 32];
+const ROWS: [usize; 4] = [4, 8, 16, MOST_ROWS];
 const UTILISATIONS: [f64; 4] = [0.5, 0.7, 0.9, 0.98];
-const JOBS: [u32; 5] = [256, 512, 1_024, 2_048, 4_096];
+const MOST: u32 = MOST_JOBS as u32;
+const JOBS: [u32; 5] = [MOST / 16, MOST / 8, MOST / 4, MOST / 2, MOST];
 
 pub fn heading(emulated: bool) {
     if emulated {
@@ -67,9 +69,9 @@ pub fn realistic_plans(versions: &mut Versions) -> io::Result<()> {
 pub fn hard_cases(versions: &mut Versions) -> io::Result<()> {
     table_head();
     let runs = [
-        ("play: 4,096 jobs, spaced", families::spaced(4_096)),
-        ("play: 4,096 jobs, preempting each other", families::preempted(4_096)),
-        ("play: 4,096 jobs, a flood pending at once", families::flood(4_096)),
+        ("play: 4,096 jobs, spaced", families::spaced(MOST)),
+        ("play: 4,096 jobs, preempting each other", families::preempted(MOST)),
+        ("play: 4,096 jobs, a flood pending at once", families::flood(MOST)),
     ];
     for (name, call) in families::hard().into_iter().chain(families::long_active_periods()).chain(runs) {
         line(name, &measure(versions, &[call], true)?);

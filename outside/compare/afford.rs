@@ -1,6 +1,7 @@
 //! Which tables the second planner's upward searches can afford; a table that is refused early
 //! costs nothing.
 
+use common::widths::{rows_of, MOST_ROWS, ROW_WIDTH};
 use second::{busy_period, Row};
 
 const MOST_STEPS: u64 = 4_000_000;
@@ -14,8 +15,8 @@ pub struct Afford {
 }
 
 pub fn of(table: &[u32]) -> Afford {
-    let sound = table.len() % 3 == 0
-        && (1..=32).contains(&(table.len() / 3))
+    let sound = table.len() % ROW_WIDTH == 0
+        && (1..=MOST_ROWS).contains(&rows_of(table))
         && table.iter().all(|v| (1..=1_000_000).contains(v));
     if !sound {
         return Afford { responses: true, plan: true, overloaded: false };

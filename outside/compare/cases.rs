@@ -3,6 +3,7 @@
 use crate::judge::Judge;
 use crate::{afford, damage, make, traits};
 use common::random::Random;
+use common::widths::{jobs_of, rows_of, MOST_PLANNED_NUMBERS, PLANNED_WIDTH, ROW_WIDTH, TIMES_WIDTH};
 
 /// One short, exact, longer, or none.
 fn room(random: &mut Random, need: usize) -> usize {
@@ -34,16 +35,16 @@ pub fn tables_and_plans(judge: &mut Judge, random: &mut Random, cases: usize) {
         for _ in 0..times_damaged(random) {
             damage::table(random, &mut table);
         }
-        let rows = table.len() / 3;
+        let rows = rows_of(&table);
         if affordable.plan {
-            let space = room(random, 3 * rows);
+            let space = room(random, PLANNED_WIDTH * rows);
             let planned = judge.plan(&table, space);
             traits::of_table(&mut judge.counts, &table);
             if let Some(planned) = planned {
                 traits::of_planned(&mut judge.counts, &planned);
-                plan = planned.chunks(3).flat_map(|p| [p[0], p[1]]).collect();
+                plan = planned.chunks(PLANNED_WIDTH).flat_map(|p| [p[0], p[1]]).collect();
                 traits::of_plan(&mut judge.counts, &table, &plan);
-                if judge.times(&table, &plan, rows) != Some(planned.chunks(3).map(|p| p[2]).collect()) {
+                if judge.times(&table, &plan, rows) != Some(planned.chunks(PLANNED_WIDTH).map(|p| p[2]).collect()) {
                     judge.fault(|| format!("times of the plan of {table:?} are not the plan's responses"));
                 }
                 if judge.verdict(&table, &plan) != Some(true) {
@@ -57,7 +58,7 @@ pub fn tables_and_plans(judge: &mut Judge, random: &mut Random, cases: usize) {
         for _ in 0..times_damaged(random) {
             damage::plan(random, &mut plan, &table);
         }
-        let space = room(random, rows);
+        let space = room(random, TIMES_WIDTH * rows);
         if judge.times(&table, &plan, space).is_some() {
             traits::of_plan(&mut judge.counts, &table, &plan);
         }
@@ -69,7 +70,7 @@ pub fn runs(judge: &mut Judge, random: &mut Random, cases: usize) {
     for _ in 0..cases {
         let mut table = make::table(random);
         let mut plan = make::plan(random, &table);
-        let longest = u64::from(table.iter().skip(2).step_by(3).copied().max().unwrap_or(1));
+        let longest = u64::from(table.chunks(ROW_WIDTH).map(|row| row[2]).max().unwrap_or(1));
         let (most, last_release) = (random.pick(&[1, 3, 8, 30, 90]), random.pick(&[0, longest, 4 * longest]));
         let mut jobs = make::jobs(random, &table, most, last_release.min(1_000_000));
         for _ in 0..times_damaged(random) {
@@ -81,7 +82,7 @@ pub fn runs(judge: &mut Judge, random: &mut Random, cases: usize) {
         if random.once_in(8) {
             damage::table(random, &mut table);
         }
-        let space = room(random, jobs.len() / 3);
+        let space = room(random, jobs_of(&jobs));
         judge.play(&table, &plan, &jobs, space);
     }
 }
@@ -93,7 +94,7 @@ pub fn sheets(judge: &mut Judge, random: &mut Random, cases: usize) {
             damage::sheet(random, &mut text);
         }
         let rows = text.iter().filter(|byte| **byte == b'\n').count().saturating_sub(1);
-        let space = room(random, 3 * rows);
+        let space = room(random, ROW_WIDTH * rows);
         judge.sheet(&text, space);
     }
 }
@@ -101,17 +102,18 @@ pub fn sheets(judge: &mut Judge, random: &mut Random, cases: usize) {
 /// Each byte of a sheet replaced by each of the 256, each place cut, each byte left out.
 pub fn every_byte_of_a_sheet(judge: &mut Judge) {
     let sheet = *b"tick 10\ntask 20 50 50\ntask 40 70 70\n";
+    let room = 2 * ROW_WIDTH;
     for at in 0..=sheet.len() {
-        judge.sheet(&sheet[..at], 6);
+        judge.sheet(&sheet[..at], room);
         for byte in 0..=255 {
             let (front, back) = sheet.split_at(at);
-            judge.sheet(&[front, &[byte], back].concat(), 6);
+            judge.sheet(&[front, &[byte], back].concat(), room);
             if !back.is_empty() {
-                judge.sheet(&[front, &[byte], &back[1..]].concat(), 6);
+                judge.sheet(&[front, &[byte], &back[1..]].concat(), room);
             }
         }
         if at < sheet.len() {
-            judge.sheet(&[&sheet[..at], &sheet[at + 1..]].concat(), 6);
+            judge.sheet(&[&sheet[..at], &sheet[at + 1..]].concat(), room);
         }
     }
 }
@@ -123,7 +125,7 @@ pub fn pages(judge: &mut Judge, random: &mut Random, cases: usize) {
             match random.below(4) {
                 0 => planned.clear(),
                 1 => planned.push(7),
-                2 => planned.resize(99, 7),
+                2 => planned.resize(MOST_PLANNED_NUMBERS + PLANNED_WIDTH, 7),
                 _ => {
                     planned.pop();
                 }

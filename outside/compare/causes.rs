@@ -1,6 +1,7 @@
 //! What is wrong with a plan, a job or a sheet at the place where it is refused: refusals 6, 8 and 9
 //! have several causes each.
 
+use common::widths::{JOB_WIDTH, MOST_ROWS, MOST_TABLE_NUMBERS, PLAN_WIDTH};
 use second::Row;
 
 pub const OF_PLANS: [&str; 6] =
@@ -36,25 +37,29 @@ fn those<const N: usize>(names: [&'static str; N], hit: [bool; N]) -> Vec<&'stat
 /// Of the row at which the plan is refused.
 pub fn of_plan(table: &[u32], plan: &[u32], row: usize) -> Vec<&'static str> {
     let rows = Row::of_table(table);
-    if plan.len() != 2 * rows.len() {
+    if plan.len() != PLAN_WIDTH * rows.len() {
         return vec![OF_PLANS[0]];
     }
-    let (rank, length) = (plan[2 * row], u64::from(plan[2 * row + 1]));
-    let taken = (0..row).any(|before| plan[2 * before] == rank);
+    let (rank, length) = (plan[PLAN_WIDTH * row], u64::from(plan[PLAN_WIDTH * row + 1]));
+    let taken = (0..row).any(|before| plan[PLAN_WIDTH * before] == rank);
     those(OF_PLANS, [false, rank == 0, rank > rows.len() as u32, taken, length == 0, length > rows[row].c])
 }
 
 /// Of the job at which the list is refused.
 pub fn of_job(table: &[u32], jobs: &[u32], job: usize) -> Vec<&'static str> {
     let rows = Row::of_table(table);
-    let [row, release, run] = [0, 1, 2].map(|i| u64::from(jobs[3 * job + i]));
-    let ahead = || jobs[..3 * job].chunks(3);
+    let [row, release, run] = [0, 1, 2].map(|i| u64::from(jobs[JOB_WIDTH * job + i]));
+    let ahead = || jobs[..JOB_WIDTH * job].chunks(JOB_WIDTH);
     let falls = ahead().any(|j| u64::from(j[1]) > release);
     let Some(own) = rows.get(row as usize) else {
         return those(OF_JOBS, [true, release > second::MOST, run == 0, false, falls, false]);
     };
     let close = ahead().any(|j| u64::from(j[0]) == row && release < u64::from(j[1]) + own.t);
     those(OF_JOBS, [false, release > second::MOST, run == 0, run > own.c, falls, close])
+}
+
+fn is_whole(text: &[u8]) -> bool {
+    second::sheet(text, MOST_TABLE_NUMBERS).map_or_else(|refusal| refusal.number != 9, |_| true)
 }
 
 /// Of the text from the place on at which it is refused.
@@ -65,9 +70,9 @@ pub fn of_sheet(text: &[u8], place: usize) -> &'static str {
     let cause = match (last, rest.first()) {
         _ if text.is_empty() => 0,
         (b'\n', None) => 1,
-        (b'0'..=b'9', None) if second::sheet(&[text, b"\n"].concat(), 96).map_or_else(|r| r.number != 9, |_| true) => 2,
+        (b'0'..=b'9', None) if is_whole(&[text, b"\n"].concat()) => 2,
         (_, None) => 3,
-        (b'\n', Some(_)) if lines == 1 + second::MOST_ROWS => 4,
+        (b'\n', Some(_)) if lines == 1 + MOST_ROWS => 4,
         (b' ', Some(b'0')) => 5,
         (b'0'..=b'9', Some(b'0'..=b'9')) if lines == 0 => 6,
         (b'0'..=b'9', Some(b'0'..=b'9')) => 7,

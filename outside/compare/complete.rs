@@ -3,6 +3,7 @@
 
 use crate::judge::Judge;
 use common::random::Random;
+use common::widths::{rows_of, PLANNED_WIDTH};
 use second::{all_plans, busy_period, Row};
 
 fn small_table(random: &mut Random) -> Vec<u32> {
@@ -27,7 +28,7 @@ pub fn against_all_plans(judge: &mut Judge, random: &mut Random, cases: usize) {
             let plan: Vec<u32> = placed.iter().flat_map(|p| [p.rank, p.length]).collect();
             some_plan_passes |= judge.verdict(&table, &plan) == Some(true);
         }
-        let given = judge.plan(&table, table.len()).is_some();
+        let given = judge.plan(&table, PLANNED_WIDTH * rows_of(&table)).is_some();
         judge.counts.add(if given { "complete: some plan passes" } else { "complete: no plan passes" });
         if given != some_plan_passes {
             judge.fault(|| format!("{table:?}: plan given {given}, some plan passes {some_plan_passes}"));

@@ -2,6 +2,9 @@
 //! places and several at once.
 
 use common::random::Random;
+use common::widths::{
+    jobs_of, rows_of, JOB_WIDTH, MOST_JOB_NUMBERS, MOST_PLAN_NUMBERS, MOST_TABLE_NUMBERS, PLAN_WIDTH, ROW_WIDTH,
+};
 
 const BAD_NUMBERS: [u32; 5] = [0, 1_000_001, 1_000_002, 1 << 31, u32::MAX];
 
@@ -20,7 +23,7 @@ fn resize(random: &mut Random, numbers: &mut Vec<u32>, beyond: usize) {
 
 pub fn table(random: &mut Random, table: &mut Vec<u32>) {
     if random.once_in(3) {
-        resize(random, table, 99);
+        resize(random, table, MOST_TABLE_NUMBERS + ROW_WIDTH);
     } else if !table.is_empty() {
         let at = random.below(table.len());
         table[at] = random.pick(&BAD_NUMBERS);
@@ -29,17 +32,18 @@ pub fn table(random: &mut Random, table: &mut Vec<u32>) {
 
 pub fn plan(random: &mut Random, plan: &mut Vec<u32>, table: &[u32]) {
     if random.once_in(4) || plan.is_empty() {
-        return resize(random, plan, 66);
+        return resize(random, plan, MOST_PLAN_NUMBERS + PLAN_WIDTH);
     }
-    let rows = plan.len() / 2;
+    let rows = plan.len() / PLAN_WIDTH;
     let row = random.below(rows.max(1));
-    let c = table.get(3 * row).copied().unwrap_or(1);
+    let c = table.get(ROW_WIDTH * row).copied().unwrap_or(1);
+    let rank = PLAN_WIDTH * row;
     let (at, value) = match random.below(6) {
-        0 => (2 * row, 0),
-        1 => (2 * row, rows as u32 + 1),
-        2 => (2 * row, plan[2 * random.below(rows.max(1))]),
-        3 => (2 * row + 1, 0),
-        4 => (2 * row + 1, c.wrapping_add(1)),
+        0 => (rank, 0),
+        1 => (rank, rows as u32 + 1),
+        2 => (rank, plan[PLAN_WIDTH * random.below(rows.max(1))]),
+        3 => (rank + 1, 0),
+        4 => (rank + 1, c.wrapping_add(1)),
         _ => (random.below(plan.len()), random.pick(&BAD_NUMBERS)),
     };
     if at < plan.len() {
@@ -48,23 +52,23 @@ pub fn plan(random: &mut Random, plan: &mut Vec<u32>, table: &[u32]) {
 }
 
 pub fn jobs(random: &mut Random, jobs: &mut Vec<u32>, table: &[u32]) {
-    if random.once_in(5) || jobs.len() < 3 {
-        return resize(random, jobs, 3 * 4_097);
+    if random.once_in(5) || jobs.len() < JOB_WIDTH {
+        return resize(random, jobs, MOST_JOB_NUMBERS + JOB_WIDTH);
     }
-    let count = jobs.len() / 3;
-    let job = 3 * random.below(count);
-    let row = (jobs[job] as usize).min((table.len() / 3).saturating_sub(1));
+    let count = jobs_of(jobs);
+    let job = JOB_WIDTH * random.below(count);
+    let row = (jobs[job] as usize).min(rows_of(table).saturating_sub(1));
     match random.below(8) {
-        0 => jobs[job] = (table.len() / 3) as u32,
+        0 => jobs[job] = rows_of(table) as u32,
         1 => jobs[job + 1] = random.pick(&[1_000_000, 1_000_001, u32::MAX]),
         2 => jobs[job + 2] = 0,
-        3 => jobs[job + 2] = table.get(3 * row).copied().unwrap_or(1).wrapping_add(1),
+        3 => jobs[job + 2] = table.get(ROW_WIDTH * row).copied().unwrap_or(1).wrapping_add(1),
         4 => jobs[job + 1] = jobs[job + 1].wrapping_sub(1),
         5 => jobs[job + 1] = jobs[job + 1].wrapping_add(1),
-        6 => jobs[job] = random.below(table.len() / 3 + 1) as u32,
+        6 => jobs[job] = random.below(rows_of(table) + 1) as u32,
         _ => {
-            let other = 3 * random.below(count);
-            for i in 0..3 {
+            let other = JOB_WIDTH * random.below(count);
+            for i in 0..JOB_WIDTH {
                 jobs.swap(job + i, other + i);
             }
         }

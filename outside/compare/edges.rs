@@ -2,8 +2,17 @@
 //! both ends, empty slices.
 
 use crate::judge::Judge;
+use common::widths::{
+    rows_of, MOST_JOBS, MOST_PLANNED_NUMBERS, MOST_ROWS, MOST_TABLE_NUMBERS, PLANNED_WIDTH, PLAN_WIDTH, ROW_WIDTH,
+    TIMES_WIDTH,
+};
 
 const M: u32 = 1_000_000;
+
+/// A plan with its ranks in table order and one length for all rows.
+fn in_table_order(rows: usize, length: u32) -> Vec<u32> {
+    (1..=rows as u32).flat_map(|rank| [rank, length]).collect()
+}
 
 fn busy_period_at_the_horizon(judge: &mut Judge) {
     let of_the_horizon: [&[u32]; 3] = [
@@ -13,7 +22,7 @@ fn busy_period_at_the_horizon(judge: &mut Judge) {
     ];
     let one_more: [&[u32]; 1] = [&[200_001, M, 399_999, 199_999, M, 600_000]];
     for table in of_the_horizon {
-        let plan: Vec<u32> = (1..=table.len() as u32 / 3).flat_map(|rank| [rank, 1]).collect();
+        let plan = in_table_order(rows_of(table), 1);
         if judge.times(table, &plan, table.len()).is_none() {
             judge.fault(|| format!("{table:?} has a busy period of the horizon and no times"));
         }
@@ -22,8 +31,8 @@ fn busy_period_at_the_horizon(judge: &mut Judge) {
     }
     for table in one_more {
         let plan = [1, 1, 2, 1];
-        judge.plan(table, 6);
-        judge.times(table, &plan, 2);
+        judge.plan(table, 2 * PLANNED_WIDTH);
+        judge.times(table, &plan, 2 * TIMES_WIDTH);
         judge.verdict(table, &plan);
         judge.counts.add("table: a busy period one tick beyond the horizon");
     }
@@ -32,43 +41,44 @@ fn busy_period_at_the_horizon(judge: &mut Judge) {
 /// The work asked for up to a tick is 2^32 exactly.
 fn work_of_32_bits(judge: &mut Judge) {
     let table = [65_536, 65_536, 1];
-    judge.plan(&table, 3);
-    judge.times(&table, &[1, 1], 1);
+    judge.plan(&table, PLANNED_WIDTH);
+    judge.times(&table, &[1, 1], TIMES_WIDTH);
     judge.verdict(&table, &[1, 1]);
 }
 
 /// The sum of the work passes 2^64 after a few steps.
 fn heaviest_tables(judge: &mut Judge) {
-    for rows in [1, 2, 32] {
+    for rows in [1, 2, MOST_ROWS] {
         let table = [M, M, 1].repeat(rows);
-        let plan: Vec<u32> = (1..=rows as u32).flat_map(|rank| [rank, M]).collect();
-        judge.plan(&table, 3 * rows);
-        judge.times(&table, &plan, rows);
+        let plan = in_table_order(rows, M);
+        judge.plan(&table, PLANNED_WIDTH * rows);
+        judge.times(&table, &plan, TIMES_WIDTH * rows);
         judge.verdict(&table, &plan);
     }
 }
 
 fn counts_of_rows(judge: &mut Judge) {
-    for numbers in 0..=103 {
-        let table = [1, 50, 50].repeat(35)[..numbers].to_vec();
-        let plan: Vec<u32> = (1..=numbers as u32 / 3).flat_map(|rank| [rank, 1]).collect();
-        judge.plan(&table, numbers);
-        judge.times(&table, &plan, numbers / 3);
+    for numbers in 0..=MOST_TABLE_NUMBERS + 7 {
+        let table = [1, 50, 50].repeat(MOST_ROWS + 3)[..numbers].to_vec();
+        let rows = rows_of(&table);
+        let plan = in_table_order(rows, 1);
+        judge.plan(&table, PLANNED_WIDTH * rows);
+        judge.times(&table, &plan, TIMES_WIDTH * rows);
         judge.verdict(&table, &plan);
         judge.play(&table, &plan, &[0, 0, 1], 1);
         judge.print(&table, 2_000);
         judge.fit(&table, 2_000);
-        if let Some(short) = numbers.checked_sub(1) {
-            judge.plan(&table, short);
-            judge.times(&table, &plan, (numbers / 3).saturating_sub(1));
+        if numbers > 0 {
+            judge.plan(&table, (PLANNED_WIDTH * rows).saturating_sub(1));
+            judge.times(&table, &plan, (TIMES_WIDTH * rows).saturating_sub(1));
         }
     }
 }
 
 /// The last of 32 rows alone can take rank 32.
 fn last_row_at_the_last_rank(judge: &mut Judge) {
-    let table = [[1, 31, 100].repeat(31), vec![1, 32, 100]].concat();
-    if judge.plan(&table, 96).is_none() {
+    let table = [[1, 31, 100].repeat(MOST_ROWS - 1), vec![1, 32, 100]].concat();
+    if judge.plan(&table, MOST_PLANNED_NUMBERS).is_none() {
         judge.fault(|| format!("{table:?} has a plan"));
     }
 }
@@ -77,7 +87,7 @@ fn last_row_at_the_last_rank(judge: &mut Judge) {
 fn late_job_takes_longest(judge: &mut Judge) {
     let table = [115_263, M, 243_333, 1, M, 38, 2, M, 4];
     let plan = [1, 1, 2, 1, 3, 1];
-    if judge.times(&table, &plan, 3).is_none_or(|times| times[2] != 118_382) {
+    if judge.times(&table, &plan, 3 * TIMES_WIDTH).is_none_or(|times| times[2] != 118_382) {
         judge.fault(|| format!("the last response of {table:?} under {plan:?} is not 118382"));
     }
     judge.verdict(&table, &plan);
@@ -86,32 +96,32 @@ fn late_job_takes_longest(judge: &mut Judge) {
 /// Each number of a table, of a plan and of a job list put just outside its range, alone and before
 /// a second fault.
 fn places(judge: &mut Judge) {
-    let table = [3, 9, 9].repeat(32);
-    let plan: Vec<u32> = (1..=32).flat_map(|rank| [rank, 2]).collect();
-    let jobs: Vec<u32> = (0..40).flat_map(|job| [job % 32, job, 3]).collect();
+    let table = [3, 9, 9].repeat(MOST_ROWS);
+    let plan = in_table_order(MOST_ROWS, 2);
+    let jobs: Vec<u32> = (0..40).flat_map(|job| [job % MOST_ROWS as u32, job, 3]).collect();
     for at in 0..table.len() {
         for bad in [0, M + 1, u32::MAX] {
             let mut table = table.clone();
             table[at] = bad;
-            judge.plan(&table, 96);
-            judge.times(&table, &plan, 32);
+            judge.plan(&table, MOST_PLANNED_NUMBERS);
+            judge.times(&table, &plan, MOST_ROWS);
             judge.verdict(&table, &plan);
             judge.play(&table, &plan, &jobs, 40);
-            table[95] = 0;
+            table[MOST_TABLE_NUMBERS - 1] = 0;
             judge.plan(&table, 0);
         }
     }
     for at in 0..plan.len() {
-        for bad in [0, 4, 33, u32::MAX, plan[(at + 2) % plan.len()]] {
+        for bad in [0, 4, MOST_ROWS as u32 + 1, u32::MAX, plan[(at + PLAN_WIDTH) % plan.len()]] {
             let mut plan = plan.clone();
             plan[at] = bad;
-            judge.times(&table, &plan, 32);
+            judge.times(&table, &plan, MOST_ROWS);
             judge.verdict(&table, &plan);
             judge.play(&table, &plan, &jobs, 40);
         }
     }
     for at in 0..jobs.len() {
-        for bad in [0, 4, 32, M, M + 1, u32::MAX, jobs[at] + 1, jobs[at].saturating_sub(1)] {
+        for bad in [0, 4, MOST_ROWS as u32, M, M + 1, u32::MAX, jobs[at] + 1, jobs[at].saturating_sub(1)] {
             let mut jobs = jobs.clone();
             jobs[at] = bad;
             judge.play(&table, &plan, &jobs, 40);
@@ -121,11 +131,11 @@ fn places(judge: &mut Judge) {
 
 fn job_lists(judge: &mut Judge) {
     let (table, plan) = ([1, 1, 1], [1, 1]);
-    for count in [0, 1, 4_095, 4_096, 4_097, 5_000] {
-        let jobs: Vec<u32> = (0..count).flat_map(|job| [0, job, 1]).collect();
-        judge.play(&table, &plan, &jobs, count as usize);
-        judge.play(&table, &plan, &jobs, (count as usize).saturating_sub(1));
-        judge.play(&table, &plan, &[&jobs[..], &[0]].concat(), count as usize);
+    for count in [0, 1, MOST_JOBS - 1, MOST_JOBS, MOST_JOBS + 1, 5_000] {
+        let jobs: Vec<u32> = (0..count as u32).flat_map(|job| [0, job, 1]).collect();
+        judge.play(&table, &plan, &jobs, count);
+        judge.play(&table, &plan, &jobs, count.saturating_sub(1));
+        judge.play(&table, &plan, &[&jobs[..], &[0]].concat(), count);
     }
     judge.play(&table, &plan, &[0, M, 1], 1);
     judge.play(&table, &plan, &[0, M - 1, 1, 0, M, 1], 2);
@@ -137,35 +147,38 @@ fn job_lists(judge: &mut Judge) {
 /// Each number of a sheet at its limit and one beyond.
 fn largest_numbers_of_a_sheet(judge: &mut Judge) {
     for tick in ["1000", "1001", "9999", "10000"] {
-        judge.sheet(format!("tick {tick}\ntask 1 2 3\n").as_bytes(), 3);
+        judge.sheet(format!("tick {tick}\ntask 1 2 3\n").as_bytes(), ROW_WIDTH);
     }
     let most = "1000000000";
     for beyond in ["1000000000", "1000000001", "9999999999", "10000000000"] {
         for [c, d, t] in [[beyond, most, most], [most, beyond, most], [most, most, beyond]] {
-            judge.sheet(format!("tick 1000\ntask {c} {d} {t}\n").as_bytes(), 3);
+            judge.sheet(format!("tick 1000\ntask {c} {d} {t}\n").as_bytes(), ROW_WIDTH);
         }
     }
 }
 
 fn long_texts(judge: &mut Judge) {
     let line = b"task 1000000000 1000000000 1000000000\n";
-    for lines in [31, 32, 33, 2_000] {
-        judge.sheet(&[&b"tick 1000\n"[..], &line.repeat(lines)].concat(), 96);
-        judge.sheet(&[&b"tick 999\n"[..], &line.repeat(lines)].concat(), 96);
-        judge.sheet(&[&b"tick 1000\n"[..], &line.repeat(lines)].concat(), 95);
+    for lines in [MOST_ROWS - 1, MOST_ROWS, MOST_ROWS + 1, 2_000] {
+        judge.sheet(&[&b"tick 1000\n"[..], &line.repeat(lines)].concat(), MOST_TABLE_NUMBERS);
+        judge.sheet(&[&b"tick 999\n"[..], &line.repeat(lines)].concat(), MOST_TABLE_NUMBERS);
+        judge.sheet(&[&b"tick 1000\n"[..], &line.repeat(lines)].concat(), MOST_TABLE_NUMBERS - 1);
     }
-    judge.sheet(&b"tick 1\ntask 1 1 1\n".repeat(3_000), 96);
-    judge.sheet(&[b'9'; 100_000], 96);
-    judge.sheet(&[&b"tick 1"[..], &[b'0'; 100_000]].concat(), 96);
-    judge.sheet(b"tick 1\ntask 1 2 18446744073709551617\n", 3);
-    judge.sheet(b"tick 7\ntask 1 7 8\n", 3);
+    judge.sheet(&b"tick 1\ntask 1 1 1\n".repeat(3_000), MOST_TABLE_NUMBERS);
+    judge.sheet(&[b'9'; 100_000], MOST_TABLE_NUMBERS);
+    judge.sheet(&[&b"tick 1"[..], &[b'0'; 100_000]].concat(), MOST_TABLE_NUMBERS);
+    judge.sheet(b"tick 1\ntask 1 2 18446744073709551617\n", ROW_WIDTH);
+    judge.sheet(b"tick 7\ntask 1 7 8\n", ROW_WIDTH);
 }
 
 /// The header names the longest sheet and the longest printed plan.
 fn longest_texts(judge: &mut Judge) {
-    let sheet = [&b"tick 1000\n"[..], &b"task 1000000000 1000000000 1000000000\n".repeat(32)].concat();
-    let page = [u32::MAX; 96];
-    if sheet.len() != 1_226 || judge.sheet(&sheet, 96).is_none() || judge.fit(&page, 1_950) != Some(1_950) {
+    let sheet = [&b"tick 1000\n"[..], &b"task 1000000000 1000000000 1000000000\n".repeat(MOST_ROWS)].concat();
+    let page = [u32::MAX; MOST_PLANNED_NUMBERS];
+    if sheet.len() != 1_226
+        || judge.sheet(&sheet, MOST_TABLE_NUMBERS).is_none()
+        || judge.fit(&page, 1_950) != Some(1_950)
+    {
         judge.fault(|| "the longest sheet or the longest printed plan is not what the header says".into());
     }
     judge.print(&page, 1_950);

@@ -4,6 +4,7 @@
 use crate::judge::Judge;
 use crate::make;
 use common::random::Random;
+use common::widths::TIMES_WIDTH;
 use second::{busy_period, finishes, Job, Placed, Row};
 
 const MOST_RUNS: u64 = 20_000;
@@ -68,7 +69,7 @@ pub fn of_small_tables(judge: &mut Judge, random: &mut Random, cases: usize) {
         if runs.is_none_or(|runs| runs > MOST_RUNS) {
             continue;
         }
-        let Some(responses) = judge.times(&table, &plan, rows.len()) else { continue };
+        let Some(responses) = judge.times(&table, &plan, TIMES_WIDTH * rows.len()) else { continue };
         let mut longest = vec![0; rows.len()];
         let mut seen = 0u64;
         let mut sample: Vec<Vec<Job>> = vec![];

@@ -1,6 +1,7 @@
 //! Document 01's figures, starred and not, put to the second planner and to the library.
 
 use crate::judge::Judge;
+use common::widths::{rows_of, PLANNED_WIDTH, ROW_WIDTH};
 use second::{Answer, Level, Placed, Refusal, Row};
 
 const M: u32 = 1_000_000;
@@ -18,8 +19,9 @@ fn same<T: PartialEq + std::fmt::Debug>(judge: &mut Judge, what: &str, second: T
 }
 
 fn planned(judge: &mut Judge, table: &[u32], printed: Answer<&[u32]>) {
-    judge.plan(table, table.len());
-    same(judge, &format!("plan {table:?}"), second::plan(table, table.len()), printed.map(<[u32]>::to_vec));
+    let room = PLANNED_WIDTH * rows_of(table);
+    judge.plan(table, room);
+    same(judge, &format!("plan {table:?}"), second::plan(table, room), printed.map(<[u32]>::to_vec));
 }
 
 fn timed(judge: &mut Judge, table: &[u32], plan: &[u32], printed: &[u32]) {
@@ -33,8 +35,9 @@ fn played(judge: &mut Judge, table: &[u32], plan: &[u32], jobs: &[u32], printed:
 }
 
 fn read(judge: &mut Judge, text: &[u8], printed: Answer<&[u32]>) {
-    judge.sheet(text, 6);
-    same(judge, &format!("sheet {text:?}"), second::sheet(text, 6), printed.map(<[u32]>::to_vec));
+    let room = 2 * ROW_WIDTH;
+    judge.sheet(text, room);
+    same(judge, &format!("sheet {text:?}"), second::sheet(text, room), printed.map(<[u32]>::to_vec));
 }
 
 pub fn all(judge: &mut Judge) {

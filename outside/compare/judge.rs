@@ -4,6 +4,7 @@ use crate::causes;
 use crate::counts::Counts;
 use common::bridge::{bytes, numbers, Bridge, Call, Operation, Reply};
 use common::random::Random;
+use common::widths::{jobs_of, rows_of, PLANNED_WIDTH};
 use second::{Answer, Refusal};
 
 /// What a given answer comes to: its value, and the front of the output.
@@ -168,12 +169,12 @@ impl Judge {
     }
 
     pub fn plan_alone(&mut self, table: &[u32]) -> Answer<Vec<u32>> {
-        let slices = vec![bytes(table), self.output(4 * table.len())];
+        let slices = vec![bytes(table), self.output(4 * PLANNED_WIDTH * rows_of(table))];
         self.alone(Call { operation: Operation::Plan, slices, number: 0 })
     }
 
     pub fn play_alone(&mut self, table: &[u32], plan: &[u32], jobs: &[u32]) -> Answer<Vec<u32>> {
-        let slices = vec![bytes(table), bytes(plan), bytes(jobs), self.output(4 * jobs.len() / 3)];
+        let slices = vec![bytes(table), bytes(plan), bytes(jobs), self.output(4 * jobs_of(jobs))];
         self.alone(Call { operation: Operation::Play, slices, number: 0 })
     }
 }

@@ -3,9 +3,12 @@
 use crate::judge::Judge;
 use crate::make;
 use common::random::Random;
+use common::widths::{jobs_of, JOB_WIDTH, MOST_JOBS, MOST_ROWS, PLANNED_WIDTH, PLAN_WIDTH};
 use second::{busy_period, Level, Placed, Refusal, Row};
 
 const M: u64 = 1_000_000;
+const ROWS: u32 = MOST_ROWS as u32;
+const JOBS: u32 = MOST_JOBS as u32;
 
 /// Rows with spacings from `least` to M that share about `percent` of the processor, and deadlines
 /// that are mostly tight.
@@ -24,7 +27,7 @@ pub fn wide_table(random: &mut Random, rows: usize, least: u64, percent: u64) ->
 /// rows that could have had the rank none passes with a shorter length, and none before this row
 /// with the same. What passes with a length passes with more.
 fn held_at_edges(rows: &[Row], planned: &[u32]) -> bool {
-    let placed: Vec<Placed> = planned.chunks(3).map(|p| Placed { rank: p[0], length: p[1] }).collect();
+    let placed: Vec<Placed> = planned.chunks(PLANNED_WIDTH).map(|p| Placed { rank: p[0], length: p[1] }).collect();
     (0..rows.len()).all(|y| {
         let Placed { rank, length } = placed[y];
         let below = placed.iter().filter(|p| p.rank > rank).map(|p| u64::from(p.length) - 1);
@@ -38,7 +41,7 @@ fn held_at_edges(rows: &[Row], planned: &[u32]) -> bool {
             let must_fail = if z < y { u64::from(length) } else { u64::from(length) - 1 }.min(rows[z].c);
             must_fail == 0 || response(z, must_fail) > rows[z].d
         });
-        taken == u64::from(planned[3 * y + 2]) && taken <= rows[y].d && beaten
+        taken == u64::from(planned[PLANNED_WIDTH * y + 2]) && taken <= rows[y].d && beaten
     })
 }
 
@@ -49,7 +52,7 @@ fn plan(judge: &mut Judge, table: &[u32], known: &[u32]) {
     let right = match (judge.plan_alone(table), busy_period(&rows)) {
         (Ok(planned), Some(_)) => {
             judge.counts.add("large: plans held at their edges");
-            if planned.chunks(3).any(|p| p[1] > 1) {
+            if planned.chunks(PLANNED_WIDTH).any(|p| p[1] > 1) {
                 judge.counts.add("large: planned with a length above 1");
             }
             held_at_edges(&rows, &planned)
@@ -69,7 +72,7 @@ fn plan(judge: &mut Judge, table: &[u32], known: &[u32]) {
 
 pub fn plans(judge: &mut Judge, random: &mut Random, cases: usize) {
     for _ in 0..cases {
-        let rows = random.pick(&[2, 3, 5, 8, 16, 32]);
+        let rows = random.pick(&[2, 3, 5, 8, 16, MOST_ROWS]);
         let least = random.pick(&[20_000, 100_000, 500_000]);
         let percent = random.from_to(40, 95);
         let table = wide_table(random, rows, least, percent);
@@ -83,7 +86,7 @@ pub fn plans(judge: &mut Judge, random: &mut Random, cases: usize) {
 /// Tables so overloaded that a sum of their work leaves 32 bits at once, and 64 bits if it went on.
 pub fn overloads(judge: &mut Judge, random: &mut Random, cases: usize) {
     for _ in 0..cases {
-        let rows = 1 + random.below(32);
+        let rows = 1 + random.below(MOST_ROWS);
         let least = random.pick(&[10_000, 100_000]);
         let row = |_| [random.from_to(1, M) as u32, random.from_to(1, M) as u32, random.from_to(least, M) as u32];
         let table: Vec<u32> = (0..rows).flat_map(row).collect();
@@ -100,17 +103,17 @@ pub fn overloads(judge: &mut Judge, random: &mut Random, cases: usize) {
 /// to factor·q. So every decision is the same, and every finish is `factor` times as late.
 pub fn scaled_run(judge: &mut Judge, random: &mut Random, table: &[u32], jobs: &[u32], factor: u32) {
     let plan = make::plan(random, table);
-    let small = second::play(table, &plan, jobs, jobs.len() / 3);
+    let small = second::play(table, &plan, jobs, jobs_of(jobs));
     let scale = |numbers: &[u32]| numbers.iter().map(|v| v * factor).collect::<Vec<u32>>();
     let regions = |p: &[u32]| [p[0], p[1] * factor - random.below(factor as usize) as u32];
-    let large_plan: Vec<u32> = plan.chunks(2).flat_map(regions).collect();
-    let large_jobs: Vec<u32> = jobs.chunks(3).flat_map(|j| [j[0], j[1] * factor, j[2] * factor]).collect();
+    let large_plan: Vec<u32> = plan.chunks(PLAN_WIDTH).flat_map(regions).collect();
+    let large_jobs: Vec<u32> = jobs.chunks(JOB_WIDTH).flat_map(|j| [j[0], j[1] * factor, j[2] * factor]).collect();
     let expected = small.map(|finishes| scale(&finishes));
     judge.counts.add("large: runs scaled up");
-    if jobs.len() / 3 == 4_096 {
+    if jobs_of(jobs) == MOST_JOBS {
         judge.counts.add("large: runs of 4,096 jobs");
     }
-    judge.play_expecting(&scale(table), &large_plan, &large_jobs, jobs.len() / 3, expected);
+    judge.play_expecting(&scale(table), &large_plan, &large_jobs, jobs_of(jobs), expected);
 }
 
 pub fn runs(judge: &mut Judge, random: &mut Random, cases: usize) {
@@ -118,7 +121,7 @@ pub fn runs(judge: &mut Judge, random: &mut Random, cases: usize) {
         let table = make::table(random);
         let most = M / u64::from(*table.iter().max().unwrap_or(&1));
         let factor = random.pick(&[1, 2, 7, 100, most]).min(most);
-        let jobs = make::jobs(random, &table, 4_096, (M / factor).min(3_000));
+        let jobs = make::jobs(random, &table, MOST_JOBS, (M / factor).min(3_000));
         scaled_run(judge, random, &table, &jobs, factor as u32);
     }
 }
@@ -126,10 +129,10 @@ pub fn runs(judge: &mut Judge, random: &mut Random, cases: usize) {
 /// 4,096 jobs that all run 1,000,000 ticks, the longest run there is; and a flood of them all at
 /// tick 0 or soon after.
 pub fn longest_run(judge: &mut Judge, random: &mut Random) {
-    let table = [1_000, 7, 7].repeat(32);
-    let jobs: Vec<u32> = (0..4_096).flat_map(|job| [job % 32, job / 32 * 7, 1_000]).collect();
+    let table = [1_000, 7, 7].repeat(MOST_ROWS);
+    let jobs: Vec<u32> = (0..JOBS).flat_map(|job| [job % ROWS, job / ROWS * 7, 1_000]).collect();
     scaled_run(judge, random, &table, &jobs, 1_000);
-    let flood = [3, 9, 1].repeat(32);
-    let jobs: Vec<u32> = (0..4_096).flat_map(|job| [job % 32, job / 32, 1 + job % 3]).collect();
+    let flood = [3, 9, 1].repeat(MOST_ROWS);
+    let jobs: Vec<u32> = (0..JOBS).flat_map(|job| [job % ROWS, job / ROWS, 1 + job % 3]).collect();
     scaled_run(judge, random, &flood, &jobs, 1);
 }

@@ -1,6 +1,7 @@
 //! Sound random inputs: task tables of several kinds, plans, job lists, sheets and planned tables.
 
 use common::random::Random;
+use common::widths::{rows_of, JOB_WIDTH, MOST_ROWS, PLANNED_WIDTH, ROW_WIDTH, TIMES_WIDTH};
 
 const MOST: u64 = 1_000_000;
 
@@ -16,7 +17,7 @@ fn deadline(random: &mut Random, c: u64, t: u64) -> u64 {
     d.clamp(1, MOST)
 }
 
-fn row(random: &mut Random, c: u64, t: u64) -> [u32; 3] {
+fn row(random: &mut Random, c: u64, t: u64) -> [u32; ROW_WIDTH] {
     [c as u32, deadline(random, c, t) as u32, t as u32]
 }
 
@@ -53,7 +54,7 @@ fn full(random: &mut Random, rows: usize) -> Vec<u32> {
 }
 
 pub fn table(random: &mut Random) -> Vec<u32> {
-    let rows = if random.once_in(8) { 1 + random.below(32) } else { 1 + random.below(5) };
+    let rows = if random.once_in(8) { 1 + random.below(MOST_ROWS) } else { 1 + random.below(5) };
     match random.below(8) {
         0 | 1 => {
             let few = rows.min(4);
@@ -87,7 +88,8 @@ pub fn table(random: &mut Random) -> Vec<u32> {
 pub fn tight(random: &mut Random, table: &[u32]) -> (Vec<u32>, Vec<u32>) {
     let some_plan = plan(random, table);
     let mut tight = table.to_vec();
-    for (row, response) in tight.chunks_mut(3).zip(second::times(table, &some_plan, table.len()).unwrap_or_default()) {
+    let times = second::times(table, &some_plan, TIMES_WIDTH * rows_of(table)).unwrap_or_default();
+    for (row, response) in tight.chunks_mut(ROW_WIDTH).zip(times) {
         row[1] = response - u32::from(random.once_in(12) && response > 1);
     }
     (tight, some_plan)
@@ -95,7 +97,7 @@ pub fn tight(random: &mut Random, table: &[u32]) -> (Vec<u32>, Vec<u32>) {
 
 /// Ranks in any order, lengths from 1 to C.
 pub fn plan(random: &mut Random, table: &[u32]) -> Vec<u32> {
-    let rows = table.len() / 3;
+    let rows = rows_of(table);
     let mut ranks: Vec<u32> = (1..=rows as u32).collect();
     for i in (1..rows).rev() {
         ranks.swap(i, random.below(i + 1));
@@ -105,15 +107,15 @@ pub fn plan(random: &mut Random, table: &[u32]) -> Vec<u32> {
         1 => c,
         _ => random.from_to(1, c.into()) as u32,
     };
-    (0..rows).flat_map(|i| [ranks[i], length(random, table[3 * i])]).collect()
+    (0..rows).flat_map(|i| [ranks[i], length(random, table[ROW_WIDTH * i])]).collect()
 }
 
 /// Up to `most` jobs, each row's releases at their least spacing or a little wider, listed in order
 /// of release.
 pub fn jobs(random: &mut Random, table: &[u32], most: usize, last_release: u64) -> Vec<u32> {
-    let mut jobs: Vec<[u32; 3]> = vec![];
+    let mut jobs: Vec<[u32; JOB_WIDTH]> = vec![];
     let loose = random.below(3) as u64;
-    for (row, numbers) in table.chunks(3).enumerate() {
+    for (row, numbers) in table.chunks(ROW_WIDTH).enumerate() {
         let (c, t) = (u64::from(numbers[0]), u64::from(numbers[2]));
         let mut release = if random.once_in(2) { 0 } else { random.from_to(0, t.min(last_release)) };
         while release <= last_release && jobs.len() < 4 * most {
@@ -141,10 +143,10 @@ pub fn sheet(random: &mut Random) -> Vec<u8> {
             random.from_to(1, limit)
         }
     };
-    let rows = if random.once_in(10) { 32 } else { 1 + random.below(4) };
+    let rows = if random.once_in(10) { MOST_ROWS } else { 1 + random.below(4) };
     let mut text = format!("tick {}\n", number(random, 1_000));
     for _ in 0..rows {
-        let [c, d, t] = [0; 3].map(|_| number(random, 1_000_000_000));
+        let [c, d, t] = [0; ROW_WIDTH].map(|_| number(random, 1_000_000_000));
         text += &format!("task {c} {d} {t}\n");
     }
     text.into_bytes()
@@ -152,12 +154,12 @@ pub fn sheet(random: &mut Random) -> Vec<u8> {
 
 /// Any 32-bit numbers, three a row, the edges of each count of digits among them.
 pub fn planned(random: &mut Random) -> Vec<u32> {
-    let rows = if random.once_in(6) { 32 } else { 1 + random.below(12) };
+    let rows = if random.once_in(6) { MOST_ROWS } else { 1 + random.below(12) };
     let number = |_| match random.below(4) {
         0 => 10u32.pow(random.below(10) as u32),
         1 => 10u32.pow(random.below(10) as u32) - 1,
         2 => random.pick(&[0, u32::MAX, u32::MAX - 1]),
         _ => random.next() as u32,
     };
-    (0..3 * rows).map(number).collect()
+    (0..PLANNED_WIDTH * rows).map(number).collect()
 }

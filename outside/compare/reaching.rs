@@ -3,7 +3,8 @@
 use crate::judge::Judge;
 use crate::{afford, large, make};
 use common::random::Random;
-use second::{job_fault, Level, Placed, Row, MOST, MOST_JOBS};
+use common::widths::{jobs_of, rows_of, JOB_WIDTH, MOST_JOBS, MOST_ROWS, TIMES_WIDTH};
+use second::{job_fault, Level, Placed, Row, MOST};
 
 /// A job list in which a job takes its row's response.
 struct Reaching {
@@ -51,22 +52,23 @@ fn row(judge: &mut Judge, table: &[u32], plan: &[u32], responses: &[u32], i: usi
     if earlier > 0 {
         judge.counts.add("reaching: by a job after the first");
     }
-    if list.len() > 3 * 1_000 {
+    if jobs_of(&list) > 1_000 {
         judge.counts.add("reaching: lists of more than 1,000 jobs");
     }
     if job_fault(&rows, &list).is_some() {
         judge.fault(|| format!("{table:?} {plan:?}: the list for row {i} is not lawful, {list:?}"));
     }
     let finishes = judge.play_alone(table, plan, &list).unwrap_or_default();
-    let took: Vec<u32> = list.chunks(3).zip(finishes).map(|(job, finish)| finish.wrapping_sub(job[1])).collect();
-    let within = list.chunks(3).zip(&took).all(|(job, took)| *took <= responses[job[0] as usize]);
+    let took: Vec<u32> =
+        list.chunks(JOB_WIDTH).zip(finishes).map(|(job, finish)| finish.wrapping_sub(job[1])).collect();
+    let within = list.chunks(JOB_WIDTH).zip(&took).all(|(job, took)| *took <= responses[job[0] as usize]);
     if took.get(job) != Some(&responses[i]) || !within {
         judge.fault(|| format!("{table:?} {plan:?}: responses {responses:?}, in the list for row {i} {took:?}"));
     }
 }
 
 fn every_row(judge: &mut Judge, table: &[u32], plan: &[u32]) {
-    if let Some(responses) = judge.times(table, plan, table.len() / 3) {
+    if let Some(responses) = judge.times(table, plan, TIMES_WIDTH * rows_of(table)) {
         for i in 0..responses.len() {
             row(judge, table, plan, &responses, i);
         }
@@ -98,7 +100,7 @@ pub fn tables(judge: &mut Judge, random: &mut Random, cases: usize) {
 /// Rows of equal shares that leave next to nothing of the processor, with spacings of several
 /// sizes, so that some responses come late in long active periods.
 fn crowded(random: &mut Random) -> Vec<u32> {
-    let rows = random.from_to(3, 32);
+    let rows = random.from_to(3, MOST_ROWS as u64);
     let row = |_| {
         let size = random.pick(&[1, 8, 64, 512]);
         let t = random.from_to(20 * rows, 60 * rows) * size;
@@ -110,7 +112,7 @@ fn crowded(random: &mut Random) -> Vec<u32> {
 pub fn large_tables(judge: &mut Judge, random: &mut Random, cases: usize) {
     for _ in 0..cases {
         let table = if random.once_in(2) {
-            let (rows, least) = (1 + random.below(32), random.pick(&[1_000, 20_000, 100_000]));
+            let (rows, least) = (1 + random.below(MOST_ROWS), random.pick(&[1_000, 20_000, 100_000]));
             large::wide_table(random, rows, least, 85)
         } else {
             crowded(random)

@@ -1,6 +1,7 @@
 //! Counts what is notable about a table or a plan: the cases that a shortcut would get wrong.
 
 use crate::counts::Counts;
+use common::widths::{rows_of, MOST_ROWS, PLANNED_WIDTH, ROW_WIDTH};
 use second::{busy_period, Level, Placed, Row};
 
 /// Whether the sum of C/T is 1, over the product of the spacings; larger products are left out.
@@ -10,7 +11,7 @@ fn exactly_full(rows: &[Row]) -> bool {
 }
 
 pub fn of_table(counts: &mut Counts, table: &[u32]) {
-    let whole = table.len() % 3 == 0 && (1..=32).contains(&(table.len() / 3));
+    let whole = table.len() % ROW_WIDTH == 0 && (1..=MOST_ROWS).contains(&rows_of(table));
     if !whole || table.contains(&0) {
         return;
     }
@@ -40,11 +41,11 @@ pub fn of_plan(counts: &mut Counts, table: &[u32], plan: &[u32]) {
 }
 
 pub fn of_planned(counts: &mut Counts, planned: &[u32]) {
-    if planned.chunks(3).any(|p| p[1] > 1) {
+    if planned.chunks(PLANNED_WIDTH).any(|p| p[1] > 1) {
         counts.add("planned: a length above 1");
     }
     let by_rank = |p: &[u32]| p[0];
-    if !planned.chunks(3).map(by_rank).is_sorted() {
+    if !planned.chunks(PLANNED_WIDTH).map(by_rank).is_sorted() {
         counts.add("planned: ranks not in table order");
     }
 }

@@ -1,7 +1,7 @@
 //! The choice of a plan, rank by rank from the lowest, with lengths tried upward from 1; and all
 //! plans there are.
 
-use crate::{Level, Row};
+use crate::{Level, Row, PLAN_WIDTH};
 
 /// A row's place in a plan.
 #[derive(Clone, Copy, Debug, Default, PartialEq, Eq)]
@@ -12,7 +12,7 @@ pub struct Placed {
 
 impl Placed {
     pub fn of_plan(plan: &[u32]) -> Vec<Placed> {
-        plan.chunks(2).map(|p| Placed { rank: p[0], length: p[1] }).collect()
+        plan.chunks(PLAN_WIDTH).map(|p| Placed { rank: p[0], length: p[1] }).collect()
     }
 }
 

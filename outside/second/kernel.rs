@@ -2,7 +2,7 @@
 
 use std::collections::VecDeque;
 
-use crate::{Placed, Row};
+use crate::{Placed, Row, JOB_WIDTH};
 
 #[derive(Clone, Copy, Debug)]
 pub struct Job {
@@ -13,7 +13,7 @@ pub struct Job {
 
 impl Job {
     pub fn of_list(jobs: &[u32]) -> Vec<Job> {
-        jobs.chunks(3).map(|j| Job { row: j[0] as usize, release: j[1].into(), run: j[2].into() }).collect()
+        jobs.chunks(JOB_WIDTH).map(|j| Job { row: j[0] as usize, release: j[1].into(), run: j[2].into() }).collect()
     }
 }
 

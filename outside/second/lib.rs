@@ -22,8 +22,14 @@ use checks::{plan_fault, range_fault, shape_fault};
 
 pub const MOST: u64 = 1_000_000;
 pub const HORIZON: u64 = 1_000_000;
-pub const MOST_ROWS: usize = 32;
-pub const MOST_JOBS: usize = 4_096;
+const MOST_ROWS: usize = 32;
+const MOST_JOBS: usize = 4_096;
+
+/// Numbers a row of a table, of a plan and of a planned table, and numbers a job.
+const ROW_WIDTH: usize = 3;
+const PLAN_WIDTH: usize = 2;
+const PLANNED_WIDTH: usize = 3;
+const JOB_WIDTH: usize = 3;
 
 /// A refusal's number and place.
 #[derive(Clone, Copy, Debug, PartialEq, Eq)]
@@ -47,7 +53,7 @@ fn refuse_at(fault: Option<usize>, number: u32) -> Answer<()> {
 }
 
 fn checked_table(table: &[u32]) -> Answer<Vec<Row>> {
-    refuse_if(shape_fault(table), 1, 0)?;
+    refuse_if(shape_fault(table, ROW_WIDTH), 1, 0)?;
     refuse_at(range_fault(table), 3)?;
     Ok(Row::of_table(table))
 }
@@ -60,7 +66,7 @@ fn checked_plan(table: &[u32], plan: &[u32]) -> Answer<(Vec<Row>, Vec<Placed>)> 
 
 pub fn plan(table: &[u32], room: usize) -> Answer<Vec<u32>> {
     let rows = checked_table(table)?;
-    refuse_if(room < table.len(), 2, 0)?;
+    refuse_if(room < PLANNED_WIDTH * rows.len(), 2, 0)?;
     refuse_if(busy_period(&rows).is_none(), 4, 0)?;
     let chosen = choice::chosen(&rows);
     refuse_if(chosen.is_none(), 5, 0)?;
@@ -84,9 +90,9 @@ pub fn verdict(table: &[u32], plan: &[u32]) -> Answer<bool> {
 
 pub fn play(table: &[u32], plan: &[u32], jobs: &[u32], room: usize) -> Answer<Vec<u32>> {
     let (rows, placed) = checked_plan(table, plan)?;
-    refuse_if(jobs.len() % 3 != 0 || jobs.len() / 3 > MOST_JOBS, 7, 0)?;
+    refuse_if(jobs.len() % JOB_WIDTH != 0 || jobs.len() / JOB_WIDTH > MOST_JOBS, 7, 0)?;
     refuse_at(job_fault(&rows, jobs), 8)?;
-    refuse_if(room < jobs.len() / 3, 2, 0)?;
+    refuse_if(room < jobs.len() / JOB_WIDTH, 2, 0)?;
     Ok(finishes(&rows, &placed, &Job::of_list(jobs)).iter().map(|f| *f as u32).collect())
 }
 
@@ -101,7 +107,7 @@ pub fn sheet(text: &[u8], room: usize) -> Answer<Vec<u32>> {
 }
 
 pub fn print(planned: &[u32], room: usize) -> Answer<Vec<u8>> {
-    refuse_if(shape_fault(planned), 1, 0)?;
+    refuse_if(shape_fault(planned, PLANNED_WIDTH), 1, 0)?;
     let text = page::text(planned);
     refuse_if(room < text.len(), 2, 0)?;
     Ok(text)

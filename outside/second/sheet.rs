@@ -1,10 +1,10 @@
 //! A text sheet: well formed exactly if printing what was read gives its bytes back.
 
-use crate::MOST_ROWS;
+use crate::{MOST_ROWS, ROW_WIDTH};
 
 pub struct Sheet {
     tick: u64,
-    rows: Vec<[u64; 3]>,
+    rows: Vec<[u64; ROW_WIDTH]>,
 }
 
 impl Sheet {

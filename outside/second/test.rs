@@ -2,7 +2,7 @@
 //! looking upward.
 
 use crate::stretches::Stretches;
-use crate::{Placed, HORIZON};
+use crate::{Placed, HORIZON, ROW_WIDTH};
 
 #[derive(Clone, Copy, Debug, PartialEq, Eq)]
 pub struct Row {
@@ -13,7 +13,7 @@ pub struct Row {
 
 impl Row {
     pub fn of_table(table: &[u32]) -> Vec<Row> {
-        table.chunks(3).map(|r| Row { c: r[0].into(), d: r[1].into(), t: r[2].into() }).collect()
+        table.chunks(ROW_WIDTH).map(|r| Row { c: r[0].into(), d: r[1].into(), t: r[2].into() }).collect()
     }
 }
 
