@@ -102,13 +102,22 @@ enum {
 /* The place of TB_NOT_A_PLAN for a plan of the wrong size. */
 #define TB_WRONG_SIZE 32
 
+/* How many numbers each has. */
+#define TB_ROW_WIDTH 3             /* a row of a table: C, D, T */
+#define TB_PLAN_WIDTH 2            /* a row of a plan: rank, length */
+#define TB_PLANNED_WIDTH 3         /* a row of a planned table: rank, length, response */
+#define TB_TIMES_WIDTH 1           /* a row of what tb_times writes: response */
+#define TB_JOB_WIDTH 3             /* a job: row, release, run */
+
 /* The limits. An output of the size named here has room for every answer. */
 #define TB_MOST_ROWS 32
 #define TB_MOST_NUMBER 1000000     /* of a table, of a release, and of ticks in a busy period */
-#define TB_MOST_TABLE_NUMBERS 96   /* of a table and of a planned table, three a row */
-#define TB_MOST_PLAN_NUMBERS 64    /* two a row */
+#define TB_MOST_TABLE_NUMBERS (TB_MOST_ROWS * TB_ROW_WIDTH)
+#define TB_MOST_PLAN_NUMBERS (TB_MOST_ROWS * TB_PLAN_WIDTH)
+#define TB_MOST_PLANNED_NUMBERS (TB_MOST_ROWS * TB_PLANNED_WIDTH)
+#define TB_MOST_TIMES_NUMBERS (TB_MOST_ROWS * TB_TIMES_WIDTH)
 #define TB_MOST_JOBS 4096
-#define TB_MOST_JOB_NUMBERS 12288  /* three a job */
+#define TB_MOST_JOB_NUMBERS (TB_MOST_JOBS * TB_JOB_WIDTH)
 #define TB_MOST_SHEET_BYTES 1226
 #define TB_MOST_PRINTED_BYTES 1950
 
