@@ -134,7 +134,7 @@ wrong 'fit cuts its length to 32 bits' surface/operations.rs \
     'fit(lent(planned, planned_len), buf_len as u32 as usize)'
 wrong 'sums that wrap at 2^32' surface/trial.rs \
     'let next = first + released(t - 1);' \
-    'let next = first + released(t - 1) & 0xffff_ffff;'
+    'let next = first + released(t - 1 & 0xffff_ffff) & 0xffff_ffff;'
 wrong 'an inverse one too small' by_hand/level.rs '(1 << SHIFT) / u64::from(t) + 1' '(1 << SHIFT) / u64::from(t)'
 wrong 'inverses of 30 bits' by_hand/level.rs 'SHIFT: u32 = 40' 'SHIFT: u32 = 30'
 wrong 'ranks given to the wrong rows' by_hand/search.rs '        unplaced.copy_within(at + 1..rank, at);

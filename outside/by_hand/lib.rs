@@ -1,4 +1,4 @@
-//! The product's algorithms by hand in Rust, in the fastest of the forms tried, to measure the
+//! The product's algorithms by hand in Rust, each step in the fastest form tried, to measure the
 //! product against.
 #![no_std]
 
