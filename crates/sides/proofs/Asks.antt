@@ -1,102 +1,63 @@
--- Laws of what the rows ask with: two stores a row, and that a right side, a period, a start and a response read
--- nothing else.
+-- Laws of what the rows of a table ask with: stored row by row into an array of zeros.
 use Prim.Native.Nat.{ℕ, _+_, _*_, _<_, _≤_}
-use mathlib.Core.Path.{_≡_, sym, ap, _∙_, fun-ext}
-use mathlib.Core.Bool.{Bool}
+use mathlib.Core.Path.{_≡_, refl, _∙_}
 use mathlib.Core.List.{List}
 use native.Mathlib.Omega.{arith}
-use lib.ListN.{length, getD, List·getD-eq-default}
-use Rattle.counting.proofs.Cases.{by-le, by-eq}
-use Rattle.tables.specs.Table.{Table, Sound}
-use Rattle.tables.specs.inside.Rows.{no}
-use Rattle.tables.specs.declared.Row.{Row}
-use Rattle.test.specs.Test.{upto, load, busy-side, active-side, start-side, Response}
-use Rattle.sides.specs.inside.Asks.{asking, Asks}
-use Rattle.sides.proofs.Pairs.{put, put-length, put-other, put-first, put-second}
+use lib.ListN.{length, getD, replicate}
+use lib.Seq.{length-take-le, getD-take}
+use Rattle.counting.proofs.Cases.{by-eq}
+use Rattle.tables.specs.Table.{Table, most-rows}
+use Rattle.sides.specs.inside.Asks.{ask-width, inverse-of, run, inverse, AsksFront}
+use Rattle.sides.proofs.Pairs.{zeros, put, put-length, put-other, put-first, put-second}
 
--- the rows before i have stored theirs
-pub record Stored (rows : List Row) (asks : List ℕ) (i : ℕ) : Type 0 where
-  pub whole : length asks ≡ 64
-  pub runs : (k : ℕ) → k < i → getD asks (2 * k) 0 ≡ getD rows k no .c
-  pub spacings : (k : ℕ) → k < i → getD asks (2 * k + 1) 0 ≡ getD rows k no .t
+module _ (tb : Table) where
+  -- the rows before i have stored theirs, and the places not reached hold 0
+  pub record Stored (asks : List ℕ) (i : ℕ) : Type 0 where
+    pub whole : length asks ≡ ask-width * most-rows
+    pub runs : (k : ℕ) → k < i → run asks k ≡ tb .C k
+    pub inverses : (k : ℕ) → k < i → inverse asks k ≡ inverse-of (tb .T k)
+    pub past : (k : ℕ) → ask-width * i ≤ k → getD asks k 0 ≡ 0
 
-pub stored-more : (rows : List Row) (asks : List ℕ) (i : ℕ) → i < 32 → Stored rows asks i →
-    Stored rows (put asks i (getD rows i no .c) (getD rows i no .t)) (i + 1)
-stored-more rows asks i l w =
-    let c = getD rows i no .c in
-    let t = getD rows i no .t in
-    let h : 2 * i + 1 < length asks = omega (arith, w .whole) in
-    record {
-      whole = put-length asks i c t ∙ w .whole;
-      runs =
-          λ k m. by-eq k i
-          (λ e. rw e (put-first asks i c t h))
-          (λ e. put-other asks i c t (2 * k) (λ f. e (omega arith)) (λ f. omega arith) ∙ w .runs k (omega arith));
-      spacings =
-          λ k m. by-eq k i
-          (λ e. rw e (put-second asks i c t h))
-          (λ e. put-other asks i c t (2 * k + 1) (λ f. omega arith) (λ f. e (omega arith))
-          ∙ w .spacings k (omega arith));
-    }
+  pub stored-none : Stored (replicate 64 0) 0
+  stored-none =
+      record {
+        whole = refl;
+        runs = λ k h. absurd (omega arith);
+        inverses = λ k h. absurd (omega arith);
+        past = λ k _. zeros 64 k;
+      }
 
-table-ext : {n : ℕ} {C C′ T T′ : ℕ → ℕ} → C ≡ C′ → T ≡ T′ →
-    _≡_ {A = Table} (record { n = n; C = C; D = C; T = T }) (record { n = n; C = C′; D = C′; T = T′ })
-table-ext C T = rw (C, T)
-
--- where all rows have stored theirs, both are 0 past them
-pub stored-all : (rows : List Row) (asks : List ℕ) → length rows ≡ 32 → Stored rows asks 32 → Asks rows asks
-stored-all rows asks many w =
-    record {
-      same =
-          λ n. table-ext
-          (fun-ext (λ k. by-le 32 k (λ h. past (2 * k) (omega arith) ∙ ap (λ r. r .c) (none k h)) (w .runs k)))
-          (fun-ext (λ k. by-le 32 k (λ h. past (2 * k + 1) (omega arith) ∙ ap (λ r. r .t) (none k h)) (w .spacings k)));
-      whole = w .whole;
-    }
-  where
-    past : (k : ℕ) → 64 ≤ k → getD asks k 0 ≡ 0
-    past k h = List·getD-eq-default asks 0 (omega (arith, w .whole))
-
-    none : (k : ℕ) → 32 ≤ k → no ≡ getD rows k no
-    none k h = sym (List·getD-eq-default rows no (omega (arith, many)))
-
--- no right side reads a deadline: the table that the asks make serves as that of the rows
-module _ {a : Table} (tb : Table) (e : a ≡ asking tb) where
-  pub sound-for : Sound tb → Sound a
-  sound-for s =
-      rw e
-      (record {
-        some = s .some;
-        few = s .few;
-        row = λ i l. let r = s .row i l in record { C = r .C; D = r .C; T = r .T };
-      })
-
-  pub run-for : (i q : ℕ) → q ≤ tb .C i → q ≤ a .C i
-  run-for i q l = rw e l
-
-  pub busy-side-of : busy-side a ≡ busy-side tb
-  unfolding busy-side load
-  busy-side-of = rw e
-
-  module _ (P : ℕ → Bool) (b i : ℕ) where
-    pub active-side-of : active-side a P b i ≡ active-side tb P b i
-    unfolding active-side load
-    active-side-of = rw e
-
-    pub start-side-of : start-side a P b i upto ≡ start-side tb P b i upto
-    unfolding start-side load
-    start-side-of = rw e
-
-    pub response-of : {q R : ℕ} → Response a P b i q R → Response tb P b i q R
-    unfolding active-side start-side load
-    response-of x =
-        let r = rw e at x in
-        let f = r .reached in
+  module _ {asks : List ℕ} {i : ℕ} (w : Stored asks i) where
+    pub stored-more : i < most-rows → Stored (put asks i (tb .C i) (inverse-of (tb .T i))) (i + 1)
+    stored-more l =
+        let c = tb .C i in
+        let m = inverse-of (tb .T i) in
+        let h : 2 * i + 1 < length asks = omega (arith, w .whole) in
         record {
-          period = r .period;
-          active = r .active;
-          job = r .job;
-          counts = r .counts;
-          reached = record { start = f .start; starts = f .starts; ends = f .ends };
-          highest = λ k f h y. r .highest k f h (record { start = y .start; starts = y .starts; ends = y .ends });
+          whole = put-length asks i c m ∙ w .whole;
+          runs =
+              λ k g. by-eq k i
+              (λ e. rw e (put-first asks i c m h))
+              (λ e. put-other asks i c m (2 * k) (λ f. e (omega arith)) (λ f. omega arith) ∙ w .runs k (omega arith));
+          inverses =
+              λ k g. by-eq k i
+              (λ e. rw e (put-second asks i c m h))
+              (λ e. put-other asks i c m (2 * k + 1) (λ f. omega arith) (λ f. e (omega arith))
+              ∙ w .inverses k (omega arith));
+          past =
+              λ k g. put-other asks i c m k (λ f. omega arith) (λ f. omega arith) ∙ w .past k (omega arith);
+        }
+
+    pub stored-all : i ≡ tb .n → tb .n ≤ most-rows → AsksFront tb asks
+    stored-all e few =
+        record {
+          front = record {
+            long = length-take-le (ask-width * tb .n) asks (omega (arith, w .whole));
+            runs = λ j l. getD-take (ask-width * tb .n) asks (ask-width * j) 0 (omega arith) ∙ w .runs j (omega arith);
+            inverses =
+                λ j l. getD-take (ask-width * tb .n) asks (ask-width * j + 1) 0 (omega arith)
+                ∙ w .inverses j (omega arith);
+          };
+          past = λ k h. w .past k (omega arith);
+          whole = w .whole;
         }

@@ -3,16 +3,20 @@
 use Prim.Native.Nat.{ℕ, _≤_}
 use mathlib.Core.Path.{_≡_}
 use native.Mathlib.Omega.{arith}
-use Rattle.counting.proofs.Least.{Mono, LeastFixed, Climbing, climbing-below, climbing-step}
+use Rattle.counting.proofs.Least.{Mono, Climbing, climbing-below, climbing-step}
 use Rattle.test.specs.Test.{horizon}
+use Rattle.sides.specs.inside.Found.{FixedWithin}
 
 module _ {f : ℕ → ℕ} {lo : ℕ} (mono : Mono f) where
   pub climbs : {s r : ℕ} → Climbing f lo s → r ≡ f s → Climbing f lo r
   climbs {s} c e = rw e (climbing-step f lo s mono c)
 
-  module _ {t : ℕ} (least : LeastFixed f lo t) (high : t ≤ horizon) where
-    pub reached-first : {s : ℕ} → lo ≤ f lo → lo ≤ s → s ≤ t → Climbing f lo s × (s ≤ horizon)
-    reached-first {s} up from to = (climbing-below f lo s mono up least from to, omega arith)
+  module _ {low : ℕ} (w : FixedWithin f lo low) where
+    pub reached-first : Climbing f lo low × (low ≤ horizon)
+    reached-first =
+        (climbing-below f lo low mono (w .up) (w .fixed) (w .from) (w .under), omega (arith, w .under, w .within))
 
     pub reached-next : {s r : ℕ} → Climbing f lo s × (s ≤ horizon) → r ≡ f s → Climbing f lo r × (r ≤ horizon)
-    reached-next w e = let c = climbs (w .0) e in (c, omega (arith, c .under t (least .low) (least .holds)))
+    reached-next x e =
+        let c = climbs (x .0) e in
+        (c, omega (arith, w .within, c .under (w .point) (w .fixed .low) (w .fixed .holds)))

@@ -1,8 +1,12 @@
 -- The laws of the crate `sides`.
-pub mod Asks
+pub mod Inverse
 pub mod Pairs
+pub mod Asks
 pub mod Climb
 pub mod Small
-pub mod Walk
-pub mod Unique
+pub mod Level
+pub mod Pack
+pub mod Asking
 pub mod Lower
+pub mod Busy
+pub mod Unique

@@ -1,29 +1,22 @@
 -- Where the iterations may begin: what a level asks for in the first tick passes neither its active period nor the
 -- first job's finish.
 use Prim.Native.Nat.{ℕ, suc, _+_, _≤_, _<_}
-use mathlib.Core.Path.{_≡_}
-use mathlib.Core.Bool.{Bool}
+use mathlib.Core.Path.{_≡_, sym}
+use mathlib.Core.Bool.{Bool, true}
+use mathlib.Core.List.{List}
 use native.Mathlib.Omega.{arith}
 use native.Mathlib.Nat.{mul-le-mul-right}
+use Rattle.counting.specs.Sum.{without}
 use Rattle.tables.specs.Table.{Table}
 use Rattle.test.specs.Test.{horizon, active-side, Active, Start}
-use Rattle.sides.specs.inside.Found.{ActiveWithin}
+use Rattle.sides.specs.inside.Level.{active-of}
+use Rattle.sides.specs.inside.Found.{FixedWithin}
 use Rattle.counting.proofs.Up.{up-le}
 use Rattle.test.proofs.Load.{Positive, run-asked, load-mono, load-upto}
 use Rattle.test.proofs.Sides.{active-side-is, active-side-mono, active-side-up, start-side-is}
+use Rattle.sides.proofs.Level.{Asking, active-of-is, fixed-same}
 
 module _ (tb : Table) (P : ℕ → Bool) (b i : ℕ) (pos : Positive tb) (l : i < tb .n) where
-  pub within-first : {low L : ℕ} → low ≡ active-side tb P b i 1 → Active tb P b i L → L ≤ horizon →
-      ActiveWithin tb P b i low
-  within-first {low} {L} e a h =
-      record {
-        period = L;
-        active = a;
-        within = h;
-        some = omega (arith, active-side-up tb P b i pos l);
-        lower = omega (arith, a .holds, active-side-mono tb P b i 1 L (a .low));
-      }
-
   pub run-first : tb .C i ≤ active-side tb P b i 1
   run-first = omega (arith, active-side-is tb P b i 1, run-asked tb pos i 1 l (omega arith))
 
@@ -33,3 +26,29 @@ module _ (tb : Table) (P : ℕ → Bool) (b i : ℕ) (pos : Positive tb) (l : i 
       let own = mul-le-mul-right (tb .C i) (up-le 1 1 T (omega arith)) in
       let others = load-mono tb P 1 (suc s) (omega arith) in
       omega (arith, st .holds, start-side-is tb P b i q 1 s, active-side-is tb P b i 1, load-upto tb pos P s)
+
+-- a level of row i and those above it
+module _ {tb : Table} {U : ℕ → Bool} {level : List ℕ} (a : Asking tb U level) (pos : Positive tb) (b i : ℕ)
+    (l : i < tb .n) (e : U i ≡ true) where
+  abbrev P : ℕ → Bool
+  P = without U i
+
+  same : (t : ℕ) → 1 ≤ t → t ≤ horizon → active-of level b t ≡ active-side tb P b i t
+  same t = active-of-is a pos b i t l e
+
+  pub active-first : active-of level b 1 ≡ active-side tb P b i 1
+  active-first = same 1 (omega arith) (omega arith)
+
+  pub active-within : {L : ℕ} → Active tb P b i L → L ≤ horizon →
+      FixedWithin (active-of level b) 1 (active-of level b 1)
+  active-within {L} x h =
+      let first = active-first in
+      let up = active-side-up tb P b i pos l in
+      record {
+        up = omega arith;
+        point = L;
+        fixed = fixed-same (λ t from to. sym (same t from to)) h x;
+        within = h;
+        from = omega arith;
+        under = omega (arith, x .holds, active-side-mono tb P b i 1 L (x .low));
+      }

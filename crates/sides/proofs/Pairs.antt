@@ -1,11 +1,17 @@
--- Laws of lists of two numbers a row: equal where their rows are, and stored to row by row.
+-- Laws of lists of two numbers a row: zeros at first, stored to row by row, and equal where their rows are.
 use Prim.Native.Nat.{ℕ, _+_, _*_, _/_, _<_}
 use mathlib.Core.Path.{_≡_, _∙_}
 use mathlib.Core.List.{List}
 use native.Mathlib.Omega.{arith}
-use lib.ListN.{length, getD, set, length-set}
+use lib.ListN.{length, getD, set, length-set, replicate, length-replicate, getD-replicate, List·getD-eq-default}
 use lib.Seq.{ext-getD, getD-set-same, getD-set-other}
-use Rattle.counting.proofs.Cases.{by-eq}
+use Rattle.counting.proofs.Cases.{by-le, by-eq}
+
+pub zeros : (m k : ℕ) → _≡_ {A = ℕ} (getD (replicate m 0) k 0) 0
+zeros m k =
+    by-le m k
+    (λ h. List·getD-eq-default (replicate m 0) 0 {n = k} (omega (arith, length-replicate {A = ℕ} m 0)))
+    (λ h. getD-replicate m k 0 0 h)
 
 pub pairs-same : (l m : List ℕ) → length l ≡ length m → ((i : ℕ) → getD l (2 * i) 0 ≡ getD m (2 * i) 0) →
     ((i : ℕ) → getD l (2 * i + 1) 0 ≡ getD m (2 * i + 1) 0) → l ≡ m

@@ -1,14 +1,17 @@
--- How large a load is within the horizon: no right side passes 64 bits.
-use Prim.Native.Nat.{ℕ, zero, suc, _+_, _*_, _≤_, _<_}
-use mathlib.Core.Bool.{Bool}
+-- How large the numbers of a level grow within the horizon: no right side passes 64 bits.
+use Prim.Native.Nat.{ℕ, zero, suc, _+_, _*_, _/_, _≤_, _<_}
+use mathlib.Core.List.{List}
 use native.Mathlib.Omega.{arith}
-use native.Mathlib.Nat.{mul-le-mul, mul-le-mul-left, mul-le-mul-right}
-use Rattle.counting.specs.Sum.{given, sum}
-use Rattle.tables.specs.Table.{Table, Sound}
-use Rattle.test.specs.Test.{horizon, before, load}
-use Rattle.counting.proofs.Cases.{by-bool}
-use Rattle.counting.proofs.Sum.{given-yes, given-no}
-use Rattle.counting.proofs.Up.{up-le}
+use native.Mathlib.Nat.{mul-le-mul, mul-le-mul-right, div-lt-iff-lt-mul}
+use Rattle.counting.specs.Sum.{sum}
+use Rattle.tables.specs.Table.{most-rows}
+use Rattle.test.specs.Test.{horizon}
+use Rattle.sides.specs.inside.Asks.{scale, inverse-of, many, run, inverse}
+use Rattle.sides.specs.inside.Level.{asked, Small}
+
+-- what row p of a level asks for by its releases at s or before
+abbrev pub part : List ℕ → ℕ → ℕ → ℕ
+part level s p = (s * inverse level p / scale + 1) * run level p
 
 -- the most that one row asks for
 abbrev pub most-asked : ℕ
@@ -19,19 +22,25 @@ unfolding sum
 sum-small f zero b h = omega arith
 sum-small f (suc n) b h = omega (arith, sum-small f n b (λ j l. h j (omega arith)), h n (omega arith))
 
-module _ (tb : Table) (sound : Sound tb) (t : ℕ) (le : t ≤ horizon + 1) where
-  pub part-small : (j : ℕ) → j < tb .n → before t (tb .T j) * tb .C j ≤ most-asked
-  part-small j l =
-      let T = sound .row j l .T in
-      mul-le-mul {n₂ = 1000001} {m₂ = 1000000}
-      (let u = up-le t t (T .low) (let m = mul-le-mul-left t (T .low) in omega arith) in omega arith)
-      (sound .row j l .C .high)
+module _ {level : List ℕ} (small : Small level) {s : ℕ} (le : s ≤ horizon) where
+  module _ {p : ℕ} (l : p < many level) where
+    pub product-small : s * inverse level p ≤ horizon * inverse-of 1
+    product-small = mul-le-mul {n₂ = horizon} {m₂ = inverse-of 1} le (small .inverses p l)
 
-  pub load-small : (P : ℕ → Bool) → load before tb P t ≤ 32 * most-asked
-  unfolding load
-  load-small P =
-      let s = sum-small (λ j. given (P j) (before t (tb .T j) * tb .C j)) (tb .n) most-asked
-      (λ j l. by-bool (P j)
-      (λ e. rw (given-yes (P j) (before t (tb .T j) * tb .C j) e) (part-small j l))
-      (λ e. rw (given-no (P j) (before t (tb .T j) * tb .C j) e) (omega arith))) in
-      omega (arith, mul-le-mul-right most-asked (sound .few))
+    pub releases-small : s * inverse level p / scale < 1000001
+    releases-small = div-lt-iff-lt-mul {k = scale} {y = 1000001} (omega arith) .1 (omega (arith, product-small))
+
+    pub part-small : part level s p ≤ most-asked
+    part-small = mul-le-mul {n₂ = 1000001} {m₂ = 1000000} (omega (arith, releases-small)) (small .runs p l)
+
+  pub sum-within : {p : ℕ} → p ≤ many level → sum (part level s) p ≤ 32 * most-asked
+  sum-within {p} l =
+      omega (
+        arith,
+        sum-small (part level s) p most-asked (λ j h. part-small (omega arith)),
+        mul-le-mul-right {m = p} {n = most-rows} most-asked (omega (arith, small .few)),
+      )
+
+  pub asked-small : asked level s ≤ 32 * most-asked
+  unfolding asked
+  asked-small = sum-within (omega arith)

@@ -1,81 +1,100 @@
-// The right sides of the test's equations, over what the rows ask with and a set of them. Each row of the set is
-// counted once, by its mark.
+// The right sides of the test's equations, over a level: what its rows ask with, packed, so that one walk over them
+// tests no marks and divides by nothing.
 pub mod periods;
 
 ghost use mathlib.Core.Path.{_≡_};
-ghost use Prim.Native.Nat.{_+_, _<_, _≤_};
+ghost use mathlib.Core.Bool.{true};
+ghost use Prim.Native.Nat.{ℕ, _+_, _-_, _*_, _≤_, _<_};
+ghost use lib.ListN.{length};
 ghost use Rattle.marks.specs.inside.Marks.{marked};
-ghost use Rattle.tables.specs.Table.{Sound};
-ghost use Rattle.test.specs.Test.{horizon, before, upto, load, busy-side, active-side, start-side};
-ghost use Rattle.sides.specs.inside.Asks.{askingIn, Asks};
-ghost use Rattle.sides.specs.inside.Level.{Level};
+ghost use Rattle.tables.specs.Table.{Sound, most, most-rows};
+ghost use Rattle.tables.specs.inside.Rows.{tableIn};
+ghost use Rattle.test.specs.Test.{horizon};
+ghost use Rattle.sides.specs.inside.Asks.{ask-width, many, AsksFront};
+ghost use Rattle.sides.specs.inside.Level.{asked, busy-of, active-of, start-of, Small, Packed};
 use tables::Row;
 
-// What each row asks with, its run and its spacing, side by side: made once, and lent to every right side.
-pub fn asks_of(rows: [Row; 32]) -> [u32; 64]
-    ensures { λ r. ⌜ Asks rows r ⌝ }
+// How many numbers a row asks with: its run, and the inverse of its spacing.
+pub const ASK_WIDTH: usize = 2;
+
+// 2^40, of which an inverse is a fraction: s times the inverse of T over it is s / T, for s and T up to 1,000,000.
+const SCALE: u64 = 1099511627776;
+
+// What each row asks with: made once for a table.
+pub fn asks_of(rows: [Row; 32], n: usize) -> [u64; 64]
+    requires { ⌜ Sound (tableIn rows n) ⌝ }
+    ensures { λ r. ⌜ AsksFront (tableIn rows n) r ⌝ }
 {
-    let mut asks: [u32; 64] = [0; 64];
+    let mut asks: [u64; 64] = [0; 64];
     let mut i: usize = 0;
-    while i < 32 {
+    while i < n {
         let row = rows[i];
-        let at = 2 * i;
-        asks[at] = row.c;
-        asks[at + 1] = row.t;
+        let at = ASK_WIDTH * i;
+        asks[at] = row.c as u64;
+        asks[at + 1] = SCALE / (row.t as u64) + 1;
         i += 1;
     }
     asks
 }
 
-// What the rows of the set ask for before t.
-pub fn load(asks: &[u32; 64], n: usize, set: u32, t: u64) -> u64
-    requires { ⌜ Level (now asks) n set × (t ≤ horizon + 1) ⌝ }
-    ensures { λ r. ⌜ r ≡ load before (askingIn (now (asks .entry)) n) (marked set) t ⌝ }
+// What the rows of the set ask with, packed at the front of the level; and how many they are.
+pub fn level_of(asks: &[u64], set: u32, level: &mut [u64]) -> usize
+    requires { ⌜ (many (now asks) ≤ most-rows) × ((j : ℕ) → marked set j ≡ true → j < many (now asks))
+        × (length (now level) ≡ ask-width * most-rows) ⌝ }
+    ensures { λ r. ⌜ Packed (now (asks .entry)) (marked set) (now (level .exit)) r ⌝ }
 {
-    let mut sum: u64 = 0;
+    let mut m: usize = 0;
     let mut rest = set;
     while rest != 0 {
         let j = marks::next(rest);
-        let at = 2 * (j as usize);
-        sum += counting::round_up(t, asks[at + 1] as u64) * (asks[at] as u64);
+        let from = ASK_WIDTH * (j as usize);
+        let to = ASK_WIDTH * m;
+        level[to] = asks[from];
+        level[to + 1] = asks[from + 1];
         rest = marks::less(rest, j);
+        m += 1;
+    }
+    m
+}
+
+// What the rows of the level ask for before t.
+fn load(level: &[u64], t: u64) -> u64
+    requires { ⌜ Small (now level) × (1 ≤ t) × (t ≤ horizon + 1) ⌝ }
+    ensures { λ r. ⌜ r ≡ asked (now (level .entry)) (t - 1) ⌝ }
+{
+    let s = t - 1;
+    let rows = level.len() / ASK_WIDTH;
+    let mut sum: u64 = 0;
+    let mut p: usize = 0;
+    while p < rows {
+        let at = ASK_WIDTH * p;
+        sum += (s * level[at + 1] / SCALE + 1) * level[at];
+        p += 1;
     }
     sum
 }
 
-// The busy period's right side: all rows.
-pub fn busy_side(asks: &[u32; 64], n: usize, t: u64) -> u64
-    requires { ⌜ Sound (askingIn (now asks) n) × (t ≤ horizon + 1) ⌝ }
-    ensures { λ r. ⌜ r ≡ busy-side (askingIn (now (asks .entry)) n) t ⌝ }
+// The busy period's right side: the level holds all rows.
+pub fn busy_side(level: &[u64], t: u64) -> u64
+    requires { ⌜ Small (now level) × (1 ≤ t) × (t ≤ horizon) ⌝ }
+    ensures { λ r. ⌜ r ≡ busy-of (now (level .entry)) t ⌝ }
 {
-    load(asks, n, marks::whole(n as u32), t)
+    load(level, t)
 }
 
-// The active period's right side of row i with blocking b, the rows of the set above it.
-pub fn active_side(asks: &[u32; 64], n: usize, above: u32, b: u64, i: usize, t: u64) -> u64
-    requires { ⌜ Level (now asks) n above × (b ≤ horizon) × (i < n) × (t ≤ horizon + 1) ⌝ }
-    ensures { λ r. ⌜ r ≡ active-side (askingIn (now (asks .entry)) n) (marked above) b i t ⌝ }
+// The active period's right side of a row with blocking b: the level holds the row and those above it.
+pub fn active_side(level: &[u64], b: u64, t: u64) -> u64
+    requires { ⌜ Small (now level) × (b ≤ horizon) × (1 ≤ t) × (t ≤ horizon) ⌝ }
+    ensures { λ r. ⌜ r ≡ active-of (now (level .entry)) b t ⌝ }
 {
-    let at = 2 * i;
-    b + counting::round_up(t, asks[at + 1] as u64) * (asks[at] as u64) + load(asks, n, above, t)
+    b + load(level, t)
 }
 
-// The right side of the start of job k of row i with blocking b and length q. Floor plus one is rounding up one tick
-// later.
-pub fn start_side(
-    asks: &[u32; 64],
-    n: usize,
-    above: u32,
-    b: u64,
-    i: usize,
-    q: u64,
-    k: u64,
-    s: u64,
-) -> u64
-    requires { ⌜ Level (now asks) n above × (b ≤ horizon) × (i < n) × (q ≤ askingIn (now asks) n .C i)
-        × (1 ≤ k) × (k ≤ horizon) × (s ≤ horizon) ⌝ }
-    ensures { λ r. ⌜ r ≡ start-side (askingIn (now (asks .entry)) n) (marked above) b i upto q k s ⌝ }
+// The right side of a start: the level holds the rows above, and the base is the blocking and the row's own runs, but
+// for the final region of the last. Floor plus one is rounding up one tick later.
+pub fn start_side(level: &[u64], base: u64, s: u64) -> u64
+    requires { ⌜ Small (now level) × (base ≤ horizon + most * most) × (s ≤ horizon) ⌝ }
+    ensures { λ r. ⌜ r ≡ start-of (now (level .entry)) base s ⌝ }
 {
-    let at = 2 * i;
-    b + (k * (asks[at] as u64) - q) + load(asks, n, above, s + 1)
+    base + load(level, s + 1)
 }

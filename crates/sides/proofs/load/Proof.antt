@@ -1,64 +1,60 @@
--- `load` meets its contract: the walk over the marks sums each marked row once.
-use Prim.Native.Nat.{ℕ, _≤_, _<_, _*_}
+-- `load` meets its contract: the sum over the rows passed.
+use Prim.Native.Nat.{_≤_, _-_}
+use mathlib.Core.Path.{_≡_}
+use native.Mathlib.Numerals.{add-one}
 use native.Mathlib.Omega.{arith}
 use borrow.Author.Needs.{needs}
-use Rattle.marks.specs.inside.Marks.{marked}
-use Rattle.tables.specs.Table.{Table, Within}
-use Rattle.sides.specs.inside.Asks.{askingIn}
-use Rattle.sides.proofs.Walk.{Walked, walked-none, walked-more, walked-all}
-use Rattle.sides.proofs.Small.{part-small, load-small, most-asked}
+use Rattle.counting.specs.Sum.{sum}
+use Rattle.test.specs.Test.{horizon}
+use Rattle.sides.specs.inside.Asks.{many}
+use Rattle.sides.specs.inside.Level.{asked}
+use Rattle.sides.proofs.Small.{part, most-asked, product-small, releases-small, part-small, sum-within}
 use Rattle.sides.proofs.load.Statement.{statement}
 use Rattle.sides.proofs.load.Tie as tie
 
 abbrev Inv-loop : tie.InvT-loop
-Inv-loop asks n set t sum₀ rest₀ sum rest = Walked (askingIn asks n) set t sum rest
+Inv-loop level t s rows sum₀ p₀ total p = (p ≤ many level) × (total ≡ sum (part level s) p)
 
 abbrev μ-loop : tie.MeasureT-loop
-μ-loop asks n set t sum₀ rest₀ sum rest = rest
+μ-loop level t s rows sum₀ p₀ total p = rows - p
 
--- the row whose mark is next
-module _ (a : tie.After-next Inv-loop μ-loop) where
+-- the row in hand, and the tick up to which its releases count
+module _ (c : tie.In-loop Inv-loop μ-loop) where
   abbrev S : tie.Start Inv-loop μ-loop
-  S = a .before .before .before
+  S = c .before .before
 
-  abbrev tb : Table
-  tb = askingIn (S .args .asks .now) (S .args .n)
+  within : S .args .t - 1 ≤ horizon
+  within = let p = S .pre .2 in omega arith
 
-  abbrev j : ℕ
-  j = a .next .result
+  part-within : part (S .args .level .now) (S .args .t - 1) (c .before .loop .p) ≤ most-asked
+  part-within = part-small (S .pre .0) within (c .loop-test .taken)
 
-  inside : j < S .args .n
-  inside = a .before .before .loop .inv .inside j (a .next .ensures .first .holds)
+loop-holds : tie.Need-loop-holds Inv-loop μ-loop
+unfolding sum
+loop-holds c = (omega arith, omega arith)
 
-  spaced : Within (tb .T j)
-  spaced = S .pre .0 .sound .row j inside .T
-
-  summed : a .before .before .loop .sum ≤ 32 * most-asked
-  summed =
-      let all = load-small tb (S .pre .0 .sound) (S .args .t) (S .pre .1) (marked (S .args .set)) in
-      omega (arith, a .before .before .loop .inv .total)
-
--- what it asks for
-part : (c : tie.After-round-up Inv-loop μ-loop) → let a = c .before .before in
-    c .round-up .result * tb a .C (j a) ≤ most-asked
-part c =
-    let a = c .before .before in
-    rw (c .round-up .ensures) (part-small (tb a) (S a .pre .0 .sound) (S a .args .t) (S a .pre .1) (j a) (inside a))
+add-sum : tie.Need-add-sum-3 Inv-loop μ-loop
+add-sum c =
+    let l = c .before .before in
+    omega (arith, l .before .loop .inv .1, part-within l, sum-within (S l .pre .0) (within l) (l .before .loop .inv .0))
 
 loop-again : tie.Need-loop-again Inv-loop μ-loop
+unfolding sum
 loop-again c =
-    let a = c .before .before .before .before in
-    rw (c .before .before .round-up .ensures)
-    (walked-more (tb a) (S a .args .set) (S a .args .t) (a .before .before .loop .inv) (a .next .ensures)
-    (c .less .ensures))
+    let l = c .before .before .before .loop in
+    (omega (arith, c .before .before .loop-test .taken), rw (add-one (l .p)) (omega (arith, l .inv .1)))
+
+returns : tie.Need-returns Inv-loop μ-loop
+unfolding asked
+returns c =
+    let l = c .before .loop in
+    let e : l .p ≡ many (c .before .before .args .level .now) = omega (arith, l .inv .0, c .loop-test .left) in
+    rw e at (l .inv .1)
 
 pub load-spec : {M : Type 1} → statement M
-load-spec = tie.close (tie.spec Inv-loop μ-loop (λ c. walked-none _ _ _ (c .pre .0 .inside)) (λ c κs. search needs)
-    (λ c. search needs) (λ c. search needs) (λ c. search needs) (λ c. search needs) (λ c. search needs)
-    (λ c. omega (arith, spaced (c .before) .high))
-    (λ c κs. let a = c .before in (spaced a .low, omega (arith, spaced a .high, S a .pre .1))) (λ c. search needs)
-    (λ c. search needs)
-    (λ c. let a = c .before .before .before in omega (arith, S a .pre .0 .sound .row (j a) (inside a) .C .high))
-    (λ c. omega (arith, part (c .before))) (λ c. omega (arith, part (c .before), summed (c .before .before .before)))
-    (λ c κs. let n = c .before .before .before .next .ensures in (n .inside, n .first .holds)) (λ c. search needs)
-    loop-again (λ c. walked-all _ _ _ (c .before .loop .inv) (c .loop-test .left)))
+load-spec = tie.close (tie.spec Inv-loop μ-loop (λ c. search needs) loop-holds (λ c. search needs) (λ c. search needs)
+    (λ c. search needs) (λ c. search needs)
+    (λ c. let l = c .before in omega (arith, product-small (S l .pre .0) (within l) (l .loop-test .taken)))
+    (λ c. let l = c .before in omega (arith, releases-small (S l .pre .0) (within l) (l .loop-test .taken)))
+    (λ c. search needs) (λ c. search needs) (λ c. omega (arith, part-within (c .before .before))) add-sum
+    (λ c. search needs) (λ c. search needs) loop-again returns)

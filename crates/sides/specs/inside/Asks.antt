@@ -1,22 +1,41 @@
--- What the rows ask with, run and spacing, as two numbers a row.
-use Prim.Native.Nat.{ℕ, _+_, _*_}
+-- What rows ask with, two numbers a row: the run, and the inverse of the spacing, by which a product does what a
+-- division would.
+use Prim.Native.Nat.{ℕ, _+_, _*_, _/_, _≤_, _<_}
 use mathlib.Core.Path.{_≡_}
 use mathlib.Core.List.{List}
-use lib.ListN.{length, getD}
+use lib.ListN.{length, getD, take}
 use Rattle.tables.specs.Table.{Table, most-rows}
-use Rattle.tables.specs.inside.Rows.{tableIn}
-use Rattle.tables.specs.declared.Row.{Row}
 
--- a table as far as a right side reads it: no right side reads a deadline, and the run stands in its place
-abbrev pub asking : Table → Table
-asking tb = record { n = tb .n; C = tb .C; D = tb .C; T = tb .T }
+-- how many numbers a row asks with
+abbrev pub ask-width : ℕ
+ask-width = 2
 
--- what n rows ask with
-abbrev pub askingIn : List ℕ → ℕ → Table
-askingIn asks n =
-    record { n = n; C = λ i. getD asks (2 * i) 0; D = λ i. getD asks (2 * i) 0; T = λ i. getD asks (2 * i + 1) 0 }
+-- what inverses are fractions of: 2 ^ 40
+abbrev pub scale : ℕ
+scale = 1099511627776
 
--- the numbers are those of the 32 rows, two a row
-pub record Asks (rows : List Row) (asks : List ℕ) : Type 0 where
-  pub same : (n : ℕ) → askingIn asks n ≡ asking (tableIn rows n)
-  pub whole : length asks ≡ 2 * most-rows
+-- the inverse of a spacing: the law `by-inverse` says that with it a product divides
+abbrev pub inverse-of : ℕ → ℕ
+inverse-of T = scale / T + 1
+
+-- how many rows stand in a list, and the run and the inverse of its row p
+abbrev pub many : List ℕ → ℕ
+many asks = length asks / ask-width
+
+abbrev pub run : List ℕ → ℕ → ℕ
+run asks p = getD asks (ask-width * p) 0
+
+abbrev pub inverse : List ℕ → ℕ → ℕ
+inverse asks p = getD asks (ask-width * p + 1) 0
+
+-- the list is what the rows of the table ask with
+pub record Asks (tb : Table) (asks : List ℕ) : Type 0 where
+  pub long : length asks ≡ ask-width * tb .n
+  pub runs : (j : ℕ) → j < tb .n → run asks j ≡ tb .C j
+  pub inverses : (j : ℕ) → j < tb .n → inverse asks j ≡ inverse-of (tb .T j)
+
+-- the front of an array is what the rows of the table ask with, and the places past it hold 0
+pub record AsksFront (tb : Table) (asks : List ℕ) : Type 0 where
+  pub front : Asks tb (take (ask-width * tb .n) asks)
+  pub past : (k : ℕ) → ask-width * tb .n ≤ k → getD asks k 0 ≡ 0
+  pub whole : length asks ≡ ask-width * most-rows

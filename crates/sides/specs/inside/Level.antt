@@ -1,13 +1,36 @@
--- What the functions of the right sides ask for: what the rows of a sound table ask with, and a set of these rows.
-use Prim.Native.Nat.{ℕ, _<_}
+-- A level: what some rows ask with, packed at the front of an array and lent as a slice. The right sides over it.
+use Prim.Native.Nat.{ℕ, _+_, _-_, _*_, _/_, _≤_, _<_}
 use mathlib.Core.Path.{_≡_}
-use mathlib.Core.Bool.{true}
+use mathlib.Core.Bool.{Bool}
 use mathlib.Core.List.{List}
-use Rattle.marks.specs.inside.Marks.{marked}
-use Rattle.tables.specs.Table.{Sound}
-use Rattle.sides.specs.inside.Asks.{askingIn}
+use Rattle.counting.specs.Sum.{given, sum}
+use Rattle.tables.specs.Table.{most-rows, most}
+use Rattle.sides.specs.inside.Asks.{scale, inverse-of, many, run, inverse}
 
--- what n rows ask with is that of a sound table, and the set marks none but these rows
-pub record Level (asks : List ℕ) (n set : ℕ) : Type 0 where
-  pub sound : Sound (askingIn asks n)
-  pub inside : (j : ℕ) → marked set j ≡ true → j < n
+-- what the rows of a level ask for by their releases at s or before
+unfoldable pub asked : List ℕ → ℕ → ℕ
+asked level s = sum (λ p. (s * inverse level p / scale + 1) * run level p) (many level)
+
+-- the right sides: of the busy period, of the active period with blocking b, and of a start, beside which a base
+-- stands that does not depend on s
+abbrev pub busy-of : List ℕ → ℕ → ℕ
+busy-of level t = asked level (t - 1)
+
+abbrev pub active-of : List ℕ → ℕ → ℕ → ℕ
+active-of level b t = b + asked level (t - 1)
+
+abbrev pub start-of : List ℕ → ℕ → ℕ → ℕ
+start-of level base s = base + asked level s
+
+-- the rows are no more than a table has, and their numbers no larger
+pub record Small (level : List ℕ) : Type 0 where
+  pub few : many level ≤ most-rows
+  pub runs : (p : ℕ) → p < many level → run level p ≤ most
+  pub inverses : (p : ℕ) → p < many level → inverse level p ≤ inverse-of 1
+
+-- the first m rows of the level are those rows of the asks at which P passes, in whatever order: what is summed over
+-- the ones is what is summed over the others
+pub record Packed (asks : List ℕ) (P : ℕ → Bool) (level : List ℕ) (m : ℕ) : Type 0 where
+  pub few : m ≤ most-rows
+  pub same : (f : ℕ → ℕ → ℕ) → sum (λ p. f (run level p) (inverse level p)) m
+      ≡ sum (λ j. given (P j) (f (run asks j) (inverse asks j))) (many asks)

@@ -1,0 +1,78 @@
+-- Laws of a level: what it asks for is what the rows of its table ask for, within the horizon; so each right side over
+-- it is that of the test, and so is each least fixed point.
+use Prim.Native.Nat.{ℕ, suc, _+_, _-_, _*_, _≤_, _<_}
+use mathlib.Core.Path.{_≡_, sym, ap, _∙_}
+use mathlib.Core.Bool.{Bool, true}
+use mathlib.Core.List.{List}
+use native.Mathlib.Omega.{arith}
+use native.Mathlib.Nat.{mul-le-mul-right}
+use Rattle.counting.specs.Sum.{without}
+use Rattle.counting.proofs.Cases.{by-le}
+use Rattle.counting.proofs.Up.{div-mono}
+use Rattle.counting.proofs.Least.{Mono}
+use Rattle.counting.proofs.Sum.{sum-le}
+use Rattle.tables.specs.Table.{Table}
+use Rattle.test.specs.Test.{horizon, before, upto, load, every-row, busy-side, active-side, start-side}
+use Rattle.test.proofs.Load.{Positive, load-upto}
+use Rattle.test.proofs.Sides.{active-side-level, start-side-is}
+use Rattle.sides.specs.inside.Asks.{scale, many, run, inverse}
+use Rattle.sides.specs.inside.Level.{asked, busy-of, active-of, start-of, Small}
+use Rattle.sides.specs.inside.Found.{Fixed}
+
+-- the level asks for what the rows of the table at which P passes ask for
+pub record Asking (tb : Table) (P : ℕ → Bool) (level : List ℕ) : Type 0 where
+  pub small : Small level
+  pub asks : (s : ℕ) → s ≤ horizon → asked level s ≡ load upto tb P s
+
+module _ (level : List ℕ) where
+  -- it never falls, and so does no right side
+  pub asked-mono : Mono (asked level)
+  unfolding asked
+  asked-mono a b h =
+      sum-le _ _ (many level)
+      (λ p _. mul-le-mul-right (run level p)
+      (omega (arith, div-mono scale (mul-le-mul-right (inverse level p) h))))
+
+  pub busy-of-mono : Mono (busy-of level)
+  busy-of-mono x y h = asked-mono (x - 1) (y - 1) (omega arith)
+
+  pub active-of-mono : (b : ℕ) → Mono (active-of level b)
+  active-of-mono b x y h = omega (arith, asked-mono (x - 1) (y - 1) (omega arith))
+
+  pub start-of-mono : (base : ℕ) → Mono (start-of level base)
+  start-of-mono base x y h = omega (arith, asked-mono x y h)
+
+module _ {tb : Table} {P : ℕ → Bool} {level : List ℕ} (a : Asking tb P level) (pos : Positive tb) where
+  asked-before : (t : ℕ) → 1 ≤ t → t ≤ horizon + 1 → asked level (t - 1) ≡ load before tb P t
+  asked-before t low high =
+      let e : suc (t - 1) ≡ t = omega arith in
+      a .asks (t - 1) (omega arith) ∙ load-upto tb pos P (t - 1) ∙ ap (load before tb P) e
+
+  pub start-of-is : (b i q k s : ℕ) → s ≤ horizon →
+      start-of level (b + (k * tb .C i - q)) s ≡ start-side tb P b i upto q k s
+  start-of-is b i q k s h = omega (arith, a .asks s h, start-side-is tb P b i q k s)
+
+  -- the level holds the row and those above it
+  pub active-of-is : (b i t : ℕ) → i < tb .n → P i ≡ true → 1 ≤ t → t ≤ horizon →
+      active-of level b t ≡ active-side tb (without P i) b i t
+  active-of-is b i t l e low high =
+      omega (arith, asked-before t low (omega arith), active-side-level tb P b i t l e)
+
+-- the level holds all rows
+pub busy-of-is : {tb : Table} {level : List ℕ} → Asking tb every-row level → Positive tb → (t : ℕ) → 1 ≤ t →
+    t ≤ horizon → busy-of level t ≡ busy-side tb t
+unfolding busy-side
+busy-of-is a pos t low high = asked-before a pos t low (omega arith)
+
+-- right sides that agree up to the horizon have the same least fixed point there
+pub fixed-same : {f g : ℕ → ℕ} {lo t : ℕ} → ((u : ℕ) → lo ≤ u → u ≤ horizon → f u ≡ g u) → t ≤ horizon →
+    Fixed f lo t → Fixed g lo t
+fixed-same {f} {g} {lo} {t} same h x =
+    record {
+      low = x .low;
+      holds = x .holds ∙ same t (x .low) h;
+      least =
+          λ u l e. by-le u horizon
+          (λ w. x .least u l (e ∙ sym (same u l w)))
+          (λ w. omega arith);
+    }
