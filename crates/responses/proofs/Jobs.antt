@@ -9,7 +9,6 @@ use Rattle.counting.proofs.Up.{up-le}
 use Rattle.test.proofs.Load.{Positive}
 use Rattle.test.proofs.Starts.{released-within, start-exists, start-next, start-after, finish-high}
 use Rattle.sides.proofs.Lower.{run-first, start-first}
-use Rattle.responses.specs.inside.Asked.{StartWithin}
 
 -- row i, of length q, has the active period L up to H
 pub record Working (tb : Table) (P : ℕ → Bool) (b i q L : ℕ) : Type 0 where
@@ -47,11 +46,6 @@ module _ {tb : Table} {P : ℕ → Bool} {b i q L : ℕ} (w : Working tb P b i q
   next-low k {s} {u} = start-next tb P b i (w .positive) (w .row) q (w .some) (w .most) k s u
 
   module _ (k : ℕ) (counts : k < jobs tb P b i L) where
-    pub job-starts : {low : ℕ} → ((s : ℕ) → Start tb P b i q (suc k) s → low ≤ s) → StartWithin tb P b i q (suc k) low
-    job-starts lower =
-        let r = job-exists (suc k) (omega arith) counts in
-        record { start = r .0; starts = r .1; within = omega (arith, r .2, w .within); lower = lower (r .0) (r .1) }
-
     pub job-known : {s : ℕ} → Start tb P b i q (suc k) s → Job tb i q k s
     job-known {s} st =
         let high = finish-high tb P b i (w .positive) (w .row) q (w .some) (w .most) L (w .active) (suc k) s in

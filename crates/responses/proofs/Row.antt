@@ -2,20 +2,20 @@
 -- then is.
 use Prim.Native.Nat.{ℕ, _≤_, _<_}
 use mathlib.Core.Path.{_≡_, refl, sym, _∙_}
-use mathlib.Core.Bool.{Bool, true}
+use mathlib.Core.Bool.{Bool}
 use mathlib.Core.List.{List}
 use native.Mathlib.Omega.{arith}
 use lib.Dec.{ltb}
-use borrow.Author.Tests.{ltb-true, lt-ltb}
+use borrow.Author.Tests.{ltb-true, lt-ltb, le-ltb}
 use Rattle.marks.specs.inside.Marks.{marked}
 use Rattle.tables.specs.Table.{Table}
 use Rattle.tables.specs.Plan.{planOf}
-use Rattle.tables.proofs.Plan.{longer-run}
+use Rattle.tables.proofs.Plan.{cap-run}
 use Rattle.test.specs.Test.{horizon, Response, ResponseOf, above, blocking}
-use Rattle.sides.specs.inside.Found.{ActiveWithin}
+use Rattle.sides.specs.inside.Asks.{Asks}
 use Rattle.counting.proofs.Cases.{and-left}
-use Rattle.test.proofs.Plans.{blocking-is, longest-cases, plan-active, plan-bounded}
-use Rattle.responses.specs.inside.Asked.{Above, Blocks, Planned}
+use Rattle.test.proofs.Plans.{plan-active, plan-bounded}
+use Rattle.responses.specs.inside.Asked.{Ranked, Above, Blocks, Planned}
 use Rattle.responses.proofs.Same.{Agree, agree-sym, active-same, response-same}
 
 -- row i of the plan that stands in ps has the rows of the set above it, and the blocking b
@@ -29,31 +29,28 @@ module _ {tb : Table} {ps : List ℕ} {i set b : ℕ} (p : Placed tb ps i set b)
   abbrev P : ℕ → Bool
   P = above (planOf ps) (planOf ps .rank i)
 
-  pub set-inside : (j : ℕ) → marked set j ≡ true → j < tb .n
-  set-inside j e = ltb-true j (tb .n) (and-left (ltb j (tb .n)) (P j) (sym (p .over j) ∙ e))
-
   agree : Agree tb (marked set) P
   agree j h = p .over j ∙ rw (lt-ltb j (tb .n) h)
 
   blocked : b ≡ blocking tb (planOf ps) (planOf ps .rank i)
   blocked = p .under tb refl
 
-  pub blocking-small : b ≤ horizon
-  blocking-small =
-      let none = blocking-is tb (planOf ps) (planOf ps .rank i) in
-      longest-cases tb (planOf ps) (planOf ps .rank i)
-      (λ e. omega (arith, blocked, none))
-      (λ j h _ e. omega (arith, blocked, none, longer-run tb j (p .planned .plan .len-high j h), p .planned .sound .row j h .C .high))
-
-  pub active-here : ActiveWithin tb (marked set) b i 1
-  active-here =
+  -- the rows above are rows of the table, and row i is none of them
+  pub ranked : {asks : List ℕ} → Asks tb asks → Ranked tb asks set b i (planOf ps .len i)
+  ranked asks =
       let a = plan-active tb (p .planned .sound) (p .planned .busy) (planOf ps) (p .planned .plan) i (p .row) in
+      let r = planOf ps .rank i in
       record {
+        sound = p .planned .sound;
+        asked = asks;
+        inside = λ j e. ltb-true j (tb .n) (and-left (ltb j (tb .n)) (P j) (sym (p .over j) ∙ e));
+        apart = agree i (p .row) ∙ le-ltb r r (omega arith);
+        row = p .row;
+        some = p .planned .plan .len-low i (p .row);
+        most = cap-run tb i (p .planned .plan .len-high i (p .row));
         period = a .0;
         active = active-same tb P (marked set) b i (agree-sym tb agree) (rw blocked (a .1));
         within = a .2;
-        some = omega arith;
-        lower = a .1 .low;
       }
 
   pub response-here : {R : ℕ} → Response tb (marked set) b i (planOf ps .len i) R → ResponseOf tb (planOf ps) i R

@@ -4,9 +4,9 @@ use Prim.Native.Nat.{ℕ, _+_, _≤_, _<_}
 use mathlib.Core.Path.{_≡_, _∙_}
 use mathlib.Core.List.{List}
 use native.Mathlib.Omega.{arith}
-use lib.ListN.{length, getD, set, replicate, length-replicate, getD-replicate, List·getD-eq-default}
+use lib.ListN.{length, getD, set}
 use lib.Seq.{getD-set-same, getD-set-other}
-use Rattle.counting.proofs.Cases.{by-le, by-eq}
+use Rattle.counting.proofs.Cases.{by-eq}
 
 pub stored : (Q : ℕ → ℕ → Type 0) (l : List ℕ) (i x : ℕ) → i < length l → ((j : ℕ) → j < i → Q j (getD l j 0)) → Q i x →
     (j : ℕ) → j < i + 1 → Q j (getD (set l i x) j 0)
@@ -14,12 +14,6 @@ stored Q l i x lt below here j h =
     by-eq j i
     (λ e. rw (e, getD-set-same l i x 0 lt) here)
     (λ e. rw (getD-set-other l i j x 0 e) (below j (omega arith)))
-
-pub zeros : (m k : ℕ) → _≡_ {A = ℕ} (getD (replicate m 0) k 0) 0
-zeros m k =
-    by-le m k
-    (λ h. List·getD-eq-default (replicate m 0) 0 {n = k} (omega (arith, length-replicate {A = ℕ} m 0)))
-    (λ h. getD-replicate m k 0 0 h)
 
 pub unreached : (l : List ℕ) (i x : ℕ) → ((j : ℕ) → i ≤ j → getD l j 0 ≡ 0) → (j : ℕ) → i + 1 ≤ j →
     getD (set l i x) j 0 ≡ 0

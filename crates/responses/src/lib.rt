@@ -1,28 +1,28 @@
 // The response times of a plan's rows.
 ghost use mathlib.Core.Path.{_≡_};
-ghost use Prim.Native.Nat.{_*_, _<_, _≤_};
+ghost use Prim.Native.Nat.{_*_, _≤_};
 ghost use lib.ListN.{length};
 ghost use Rattle.marks.specs.inside.Marks.{marked};
 ghost use Rattle.tables.specs.Table.{most-rows};
 ghost use Rattle.tables.specs.Plan.{plan-width, planOf};
 ghost use Rattle.tables.specs.inside.Rows.{tableIn};
-ghost use Rattle.test.specs.Test.{horizon, Start, Response};
-ghost use Rattle.sides.specs.inside.Asks.{askingIn};
-ghost use Rattle.sides.specs.inside.Level.{Level};
-ghost use Rattle.sides.specs.inside.Found.{ActiveWithin};
-ghost use Rattle.responses.specs.inside.Asked.{StartWithin, Above, Blocks, Planned, Responses};
+ghost use Rattle.test.specs.Test.{Response};
+ghost use Rattle.sides.specs.inside.Asks.{many, Asks};
+ghost use Rattle.sides.specs.inside.Level.{start-of, Small};
+ghost use Rattle.sides.specs.inside.Found.{Fixed, FixedWithin};
+ghost use Rattle.responses.specs.inside.Asked.{Ranked, Above, Blocks, Planned, Responses};
+use sides::ASK_WIDTH;
 use tables::PLAN_WIDTH;
 use tables::Row;
 
-// The start of job k of row i, climbed to from below.
-fn start(asks: &[u32; 64], n: usize, above: u32, b: u64, i: usize, q: u64, k: u64, low: u64) -> u64
-    requires { ⌜ Level (now asks) n above × (b ≤ horizon) × (i < n) × (q ≤ askingIn (now asks) n .C i)
-        × (1 ≤ k) × (k ≤ horizon) × StartWithin (askingIn (now asks) n) (marked above) b i q k low ⌝ }
-    ensures { λ r. ⌜ Start (askingIn (now (asks .entry)) n) (marked above) b i q k r ⌝ }
+// The start of a job, from its base and climbed to from below: the level holds the rows above.
+fn start(level: &[u64], base: u64, low: u64) -> u64
+    requires { ⌜ Small (now level) × FixedWithin (start-of (now level) base) 0 low ⌝ }
+    ensures { λ r. ⌜ Fixed (start-of (now (level .entry)) base) 0 r ⌝ }
 {
     let mut s = low;
     let found = loop {
-        let next = sides::start_side(asks, n, above, b, i, q, k, s);
+        let next = sides::start_side(level, base, s);
         if next == s {
             break s;
         }
@@ -33,22 +33,26 @@ fn start(asks: &[u32; 64], n: usize, above: u32, b: u64, i: usize, q: u64, k: u6
 
 // The response of row i with blocking b and length q, the rows of the set above it. The active period and the first
 // start begin at what is asked for in the first tick, each other start at the one before plus C.
-pub fn response(asks: &[u32; 64], n: usize, above: u32, b: u64, i: usize, q: u64) -> u64
-    requires { ⌜ Level (now asks) n above × (b ≤ horizon) × (i < n)
-        × (1 ≤ q) × (q ≤ askingIn (now asks) n .C i) × ActiveWithin (askingIn (now asks) n) (marked above) b i 1 ⌝ }
-    ensures { λ r. ⌜ Response (askingIn (now (asks .entry)) n) (marked above) b i q r ⌝ }
+pub fn response(rows: [Row; 32], asks: &[u64], above: u32, b: u64, i: usize, q: u64) -> u64
+    requires { ⌜ Ranked (tableIn rows (many (now asks))) (now asks) above b i q ⌝ }
+    ensures { λ r. ⌜ Response (tableIn rows (many (now (asks .entry)))) (marked above) b i q r ⌝ }
 {
-    let at = PLAN_WIDTH * i;
-    let run = asks[at] as u64;
-    let spacing = asks[at + 1] as u64;
-    let least = sides::active_side(asks, n, above, b, i, 1);
-    let period = sides::periods::active_period(asks, n, above, b, i, least);
+    let row = rows[i];
+    let run = row.c as u64;
+    let spacing = row.t as u64;
+    let with_own = marks::more(above, i as u32);
+    let mut level = [0u64; 64];
+    let all = sides::level_of(asks, with_own, &mut level);
+    let least = sides::active_side(&level[..ASK_WIDTH * all], b, 1);
+    let period = sides::periods::active_period(&level[..ASK_WIDTH * all], b, least);
     let jobs = counting::round_up(period, spacing);
+    let higher = sides::level_of(asks, above, &mut level);
     let mut largest: u64 = 0;
     let mut low = least - q;
     let mut k: u64 = 0;
     while k < jobs {
-        let s = start(asks, n, above, b, i, q, k + 1, low);
+        let base = sides::base_of(rows[i], b, q, k + 1);
+        let s = start(&level[..ASK_WIDTH * higher], base, low);
         let took = s + q - k * spacing;
         if largest < took {
             largest = took;
@@ -100,11 +104,10 @@ fn blocking_of(plan: &[u32], n: usize, rank: u32) -> u64
 }
 
 // The response of each row, in table order.
-pub fn responses(rows: [Row; 32], n: usize, plan: &[u32]) -> [u32; 32]
-    requires { ⌜ Planned (tableIn rows n) (now plan) ⌝ }
+pub fn responses(rows: [Row; 32], n: usize, asks: &[u64], plan: &[u32]) -> [u32; 32]
+    requires { ⌜ Planned (tableIn rows n) (now plan) × Asks (tableIn rows n) (now asks) ⌝ }
     ensures { λ r. ⌜ Responses (tableIn rows n) (planOf (now (plan .entry))) r ⌝ }
 {
-    let asks = sides::asks_of(rows);
     let mut times: [u32; 32] = [0; 32];
     let mut i: usize = 0;
     while i < n {
@@ -113,7 +116,7 @@ pub fn responses(rows: [Row; 32], n: usize, plan: &[u32]) -> [u32; 32]
         let q = plan[at + 1];
         let above = above_of(plan, n, rank);
         let b = blocking_of(plan, n, rank);
-        times[i] = response(&asks, n, above, b, i, q as u64) as u32;
+        times[i] = response(rows, asks, above, b, i, q as u64) as u32;
         i += 1;
     }
     times

@@ -9,7 +9,7 @@ use native.Mathlib.Nat.{mul-le-mul-right}
 use Rattle.counting.specs.Sum.{without}
 use Rattle.counting.proofs.Cases.{by-le}
 use Rattle.counting.proofs.Up.{div-mono}
-use Rattle.counting.proofs.Least.{Mono}
+use Rattle.counting.proofs.Least.{Mono, least-unique}
 use Rattle.counting.proofs.Sum.{sum-le}
 use Rattle.tables.specs.Table.{Table}
 use Rattle.test.specs.Test.{horizon, before, upto, load, every-row, busy-side, active-side, start-side}
@@ -42,21 +42,23 @@ module _ (level : List ℕ) where
   pub start-of-mono : (base : ℕ) → Mono (start-of level base)
   start-of-mono base x y h = omega (arith, asked-mono x y h)
 
-module _ {tb : Table} {P : ℕ → Bool} {level : List ℕ} (a : Asking tb P level) (pos : Positive tb) where
-  asked-before : (t : ℕ) → 1 ≤ t → t ≤ horizon + 1 → asked level (t - 1) ≡ load before tb P t
-  asked-before t low high =
-      let e : suc (t - 1) ≡ t = omega arith in
-      a .asks (t - 1) (omega arith) ∙ load-upto tb pos P (t - 1) ∙ ap (load before tb P) e
+module _ {tb : Table} {P : ℕ → Bool} {level : List ℕ} (a : Asking tb P level) where
+  -- the level holds the rows above row i
+  pub start-of-is : (b i q k : ℕ) {base : ℕ} → base ≡ b + (k * tb .C i - q) → (s : ℕ) → s ≤ horizon →
+      start-of level base s ≡ start-side tb P b i upto q k s
+  start-of-is b i q k e s h = omega (arith, a .asks s h, start-side-is tb P b i q k s)
 
-  pub start-of-is : (b i q k s : ℕ) → s ≤ horizon →
-      start-of level (b + (k * tb .C i - q)) s ≡ start-side tb P b i upto q k s
-  start-of-is b i q k s h = omega (arith, a .asks s h, start-side-is tb P b i q k s)
+  module _ (pos : Positive tb) where
+    asked-before : (t : ℕ) → 1 ≤ t → t ≤ horizon + 1 → asked level (t - 1) ≡ load before tb P t
+    asked-before t low high =
+        let e : suc (t - 1) ≡ t = omega arith in
+        a .asks (t - 1) (omega arith) ∙ load-upto tb pos P (t - 1) ∙ ap (load before tb P) e
 
-  -- the level holds the row and those above it
-  pub active-of-is : (b i t : ℕ) → i < tb .n → P i ≡ true → 1 ≤ t → t ≤ horizon →
-      active-of level b t ≡ active-side tb (without P i) b i t
-  active-of-is b i t l e low high =
-      omega (arith, asked-before t low (omega arith), active-side-level tb P b i t l e)
+    -- it holds the row and those above it
+    pub active-of-is : (b i t : ℕ) → i < tb .n → P i ≡ true → 1 ≤ t → t ≤ horizon →
+        active-of level b t ≡ active-side tb (without P i) b i t
+    active-of-is b i t l e low high =
+        omega (arith, asked-before t low (omega arith), active-side-level tb P b i t l e)
 
 -- the level holds all rows
 pub busy-of-is : {tb : Table} {level : List ℕ} → Asking tb every-row level → Positive tb → (t : ℕ) → 1 ≤ t →
@@ -76,3 +78,8 @@ fixed-same {f} {g} {lo} {t} same h x =
           (λ w. x .least u l (e ∙ sym (same u l w)))
           (λ w. omega arith);
     }
+
+-- and what is found for the one is what the other has
+pub fixed-found : {f g : ℕ → ℕ} {lo t r : ℕ} → ((u : ℕ) → lo ≤ u → u ≤ horizon → f u ≡ g u) → t ≤ horizon →
+    Fixed g lo t → Fixed f lo r → r ≡ t
+fixed-found same h x y = least-unique y (fixed-same (λ u l w. sym (same u l w)) h x)

@@ -1,6 +1,6 @@
 -- Where the iterations may begin: what a level asks for in the first tick passes neither its active period nor the
 -- first job's finish.
-use Prim.Native.Nat.{ℕ, suc, _+_, _≤_, _<_}
+use Prim.Native.Nat.{ℕ, suc, _+_, _-_, _*_, _≤_, _<_}
 use mathlib.Core.Path.{_≡_, sym}
 use mathlib.Core.Bool.{Bool, true}
 use mathlib.Core.List.{List}
@@ -8,13 +8,13 @@ use native.Mathlib.Omega.{arith}
 use native.Mathlib.Nat.{mul-le-mul-right}
 use Rattle.counting.specs.Sum.{without}
 use Rattle.tables.specs.Table.{Table}
-use Rattle.test.specs.Test.{horizon, active-side, Active, Start}
-use Rattle.sides.specs.inside.Level.{active-of}
-use Rattle.sides.specs.inside.Found.{FixedWithin}
+use Rattle.test.specs.Test.{horizon, upto, active-side, Active, start-side, Start}
+use Rattle.sides.specs.inside.Level.{active-of, start-of}
+use Rattle.sides.specs.inside.Found.{Fixed, FixedWithin}
 use Rattle.counting.proofs.Up.{up-le}
 use Rattle.test.proofs.Load.{Positive, run-asked, load-mono, load-upto}
 use Rattle.test.proofs.Sides.{active-side-is, active-side-mono, active-side-up, start-side-is}
-use Rattle.sides.proofs.Level.{Asking, active-of-is, fixed-same}
+use Rattle.sides.proofs.Level.{Asking, active-of-is, start-of-is, fixed-same, fixed-found}
 
 module _ (tb : Table) (P : ℕ → Bool) (b i : ℕ) (pos : Positive tb) (l : i < tb .n) where
   pub run-first : tb .C i ≤ active-side tb P b i 1
@@ -39,16 +39,40 @@ module _ {tb : Table} {U : ℕ → Bool} {level : List ℕ} (a : Asking tb U lev
   pub active-first : active-of level b 1 ≡ active-side tb P b i 1
   active-first = same 1 (omega arith) (omega arith)
 
-  pub active-within : {L : ℕ} → Active tb P b i L → L ≤ horizon →
-      FixedWithin (active-of level b) 1 (active-of level b 1)
-  active-within {L} x h =
-      let first = active-first in
-      let up = active-side-up tb P b i pos l in
+  -- its active period, up to H
+  module _ {L : ℕ} (h : L ≤ horizon) (x : Active tb P b i L) where
+    pub active-within : FixedWithin (active-of level b) 1 (active-of level b 1)
+    active-within =
+        let first = active-first in
+        let up = active-side-up tb P b i pos l in
+        record {
+          up = omega arith;
+          point = L;
+          fixed = fixed-same (λ t from to. sym (same t from to)) h x;
+          within = h;
+          from = omega arith;
+          under = omega (arith, x .holds, active-side-mono tb P b i 1 L (x .low));
+        }
+
+    pub active-found : {t : ℕ} → Fixed (active-of level b) 1 t → t ≡ L
+    active-found = fixed-found same h x
+
+-- a level of the rows above row i, and the start of its job k, up to H
+module _ {tb : Table} {P : ℕ → Bool} {level : List ℕ} (a : Asking tb P level) (b i q k : ℕ)
+    {base s : ℕ} (e : base ≡ b + (k * tb .C i - q)) (h : s ≤ horizon) (x : Start tb P b i q k s) where
+  agrees : (u : ℕ) → 0 ≤ u → u ≤ horizon → start-of level base u ≡ start-side tb P b i upto q k u
+  agrees u _ = start-of-is a b i q k e u
+
+  pub start-within : {low : ℕ} → low ≤ s → FixedWithin (start-of level base) 0 low
+  start-within le =
       record {
         up = omega arith;
-        point = L;
-        fixed = fixed-same (λ t from to. sym (same t from to)) h x;
+        point = s;
+        fixed = fixed-same (λ u from to. sym (agrees u from to)) h x;
         within = h;
         from = omega arith;
-        under = omega (arith, x .holds, active-side-mono tb P b i 1 L (x .low));
+        under = le;
       }
+
+  pub start-found : {u : ℕ} → Fixed (start-of level base) 0 u → u ≡ s
+  start-found = fixed-found agrees h x

@@ -90,10 +90,19 @@ pub fn active_side(level: &[u64], b: u64, t: u64) -> u64
     b + load(level, t)
 }
 
-// The right side of a start: the level holds the rows above, and the base is the blocking and the row's own runs, but
-// for the final region of the last. Floor plus one is rounding up one tick later.
+// What stands beside the load in the start of job k of a row with blocking b and length q: the blocking and the row's
+// own runs, but for the final region of the last.
+pub fn base_of(row: Row, b: u64, q: u64, k: u64) -> u64
+    requires { ⌜ (b ≤ horizon) × (row .c ≤ most) × (q ≤ row .c) × (1 ≤ k) × (k ≤ horizon) ⌝ }
+    ensures { λ r. ⌜ r ≡ b + (k * row .c - q) ⌝ }
+{
+    b + (k * (row.c as u64) - q)
+}
+
+// The right side of a start, beside its base: the level holds the rows above. Floor plus one is rounding up one tick
+// later.
 pub fn start_side(level: &[u64], base: u64, s: u64) -> u64
-    requires { ⌜ Small (now level) × (base ≤ horizon + most * most) × (s ≤ horizon) ⌝ }
+    requires { ⌜ Small (now level) × (base ≤ horizon) × (s ≤ horizon) ⌝ }
     ensures { λ r. ⌜ r ≡ start-of (now (level .entry)) base s ⌝ }
 {
     base + load(level, s + 1)

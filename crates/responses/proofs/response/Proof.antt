@@ -1,134 +1,240 @@
 -- `response` meets its contract: the largest over the jobs passed, each start no lower than the one before plus C.
 use Prim.Native.Nat.{suc, ℕ, max, _≤_, _<_, _+_, _-_, _*_}
-use mathlib.Core.Path.{_≡_}
+use mathlib.Core.Path.{_≡_, refl, sym, ap, _∙_, subst}
 use mathlib.Core.Bool.{Bool}
 use mathlib.Core.Logic.{⊎-elim}
+use mathlib.Core.List.{List}
 use native.Mathlib.Numerals.{add-one}
 use native.Mathlib.Omega.{arith}
+use lib.ListN.{take, length}
+use lib.Seq.{length-take-le}
 use borrow.Author.Needs.{needs}
 use Rattle.tables.specs.Table.{Table, Within}
-use Rattle.test.specs.Test.{jobs, Start}
+use Rattle.tables.specs.inside.Rows.{tableIn}
+use Rattle.test.specs.Test.{jobs, Start, active-side}
 use Rattle.marks.specs.inside.Marks.{marked}
-use Rattle.sides.specs.inside.Asks.{askingIn}
-use Rattle.counting.proofs.Least.{least-unique}
-use Rattle.test.proofs.Load.{sound-positive}
-use Rattle.sides.proofs.Lower.{within-first}
-use Rattle.responses.proofs.Jobs.{Working, Job, jobs-few, length-first, first-ends, job-starts}
-use Rattle.responses.proofs.Jobs.{job-known, next-low}
+use Rattle.sides.specs.inside.Asks.{many}
+use Rattle.sides.proofs.Level.{Asking}
+use Rattle.sides.proofs.Asking.{asking-packed}
+use Rattle.sides.proofs.Lower.{start-within, start-found}
+use Rattle.responses.proofs.Jobs.{Job, jobs-few, length-first, first-ends}
+use Rattle.responses.proofs.Jobs.{job-exists, job-known, next-low}
 use Rattle.responses.proofs.Largest.{Passed, passed-none, passed-more, passed-all}
+use Rattle.responses.proofs.Ranked.{rows, blocking-small, working, inside, first, within, found}
 use Rattle.responses.proofs.response.Statement.{statement}
 use Rattle.responses.proofs.response.Tie as tie
 
 abbrev Inv-loop : tie.InvT-loop
-Inv-loop asks n above b i q at run spacing least period jobs largest₀ low₀ k₀ largest low k =
-    let tb = askingIn asks n in
+Inv-loop asks above b i q rows run spacing with level all least period jobs higher largest₀ low₀ k₀ largest low k =
+    let tb = tableIn rows (many asks) in
     let P = marked above in
     Passed tb P b i q k largest × (k ≤ jobs) × ((s : ℕ) → Start tb P b i q (suc k) s → low ≤ s)
 
 abbrev μ-loop : tie.MeasureT-loop
-μ-loop asks n above b i q at run spacing least period jobs largest₀ low₀ k₀ largest low k = jobs - k
+μ-loop asks above b i q rows run spacing with level all least period jobs higher largest₀ low₀ k₀ largest low k =
+    jobs - k
 
--- what row i asks with
+-- row i
 module _ (s : tie.Start Inv-loop μ-loop) where
   abbrev tb : Table
-  tb = askingIn (s .args .asks .now) (s .args .n)
+  tb = tableIn (s .args .t1) (many (s .args .asks .now))
 
   abbrev P : ℕ → Bool
   P = marked (s .args .above)
 
   run : Within (tb .C (s .args .i))
-  run = s .pre .0 .sound .row (s .args .i) (s .pre .2) .C
+  run = s .pre .sound .row (s .args .i) (s .pre .row) .C
 
   spacing : Within (tb .T (s .args .i))
-  spacing = s .pre .0 .sound .row (s .args .i) (s .pre .2) .T
+  spacing = s .pre .sound .row (s .args .i) (s .pre .row) .T
 
--- row i in its active period
-module _ (a : tie.After-active-period Inv-loop μ-loop) where
+-- the level of it and the rows above
+module _ (c : tie.After-level-of Inv-loop μ-loop) where
   abbrev S : tie.Start Inv-loop μ-loop
-  S = a .before .before .before .before
+  S = c .before .before .before .before .before .before .before
 
-  working : Working (tb S) (P S) (S .args .b) (S .args .i) (S .args .q) (a .active-period .result)
-  working =
-      let p = S .pre in
-      record {
-        positive = sound-positive (tb S) (p .0 .sound);
-        row = p .2;
-        some = p .3;
-        most = p .4;
-        active = a .active-period .ensures;
-        within = omega (arith, least-unique (a .active-period .ensures) (p .5 .active), p .5 .within);
-      }
+  -- the rows of the level
+  abbrev more : ℕ
+  more = c .before .before .more .result
 
--- a job of it
-module _ (c : tie.In-loop Inv-loop μ-loop) where
+  abbrev all : List ℕ
+  all = c .level-of .last .1 .1 .0
+
+  fits : 2 * c .level-of .result ≤ length all
+  fits = omega (arith, c .level-of .ensures .few, c .level-of .kept .1 .1 .0)
+
+  asking : Asking (tb S) (marked more) (take (2 * c .level-of .result) all)
+  asking = asking-packed (S .pre .sound) (S .pre .asked) (c .level-of .kept .1 .1 .0) (c .level-of .ensures)
+
+-- its active period
+module _ (a : tie.After-active-period Inv-loop μ-loop) where
+  abbrev W : tie.After-level-of Inv-loop μ-loop
+  W = a .before .before .before .before .before
+
+  same : a .active-period .result ≡ S W .pre .period
+  same = found (S W .pre) (more W) (W .before .before .more .ensures) (asking W) (a .active-period .ensures)
+
+  least-is : let s = S W in
+      a .before .before .active-side .result ≡ active-side (tb s) (P s) (s .args .b) (s .args .i) 1
+  least-is =
+      a .before .before .active-side .ensures
+      ∙ first (S W .pre) (more W) (W .before .before .more .ensures) (asking W)
+
+-- the level of the rows above
+module _ (c : tie.After-level-of2 Inv-loop μ-loop) where
   abbrev A : tie.After-active-period Inv-loop μ-loop
   A = c .before .before .before
+
+  abbrev Z : tie.Start Inv-loop μ-loop
+  Z = S (W A)
+
+  abbrev higher : List ℕ
+  higher = c .level-of2 .last .1 .1 .0
+
+  whole : length higher ≡ 64
+  whole = c .level-of2 .kept .1 .1 .0 ∙ W A .level-of .kept .1 .1 .0
+
+  above-fits : 2 * c .level-of2 .result ≤ length higher
+  above-fits = omega (arith, c .level-of2 .ensures .few, whole)
+
+  above-asking : Asking (tb Z) (P Z) (take (2 * c .level-of2 .result) higher)
+  above-asking = asking-packed (Z .pre .sound) (Z .pre .asked) whole (c .level-of2 .ensures)
+
+  abbrev K : ℕ
+  K = jobs (tb Z) (P Z) (Z .args .b) (Z .args .i) (Z .pre .period)
+
+  jobs-are : c .before .before .round-up .result ≡ K
+  jobs-are =
+      omega (arith, c .before .before .round-up .ensures, ap (jobs (tb Z) (P Z) (Z .args .b) (Z .args .i)) (same A))
+
+-- a job of the active period
+module _ (c : tie.In-loop Inv-loop μ-loop) where
+  abbrev H : tie.After-level-of2 Inv-loop μ-loop
+  H = c .before .before .before
 
   abbrev k : ℕ
   k = c .before .loop .k
 
-  counts : k < jobs (tb (S A)) (P (S A)) (S A .args .b) (S A .args .i) (A .active-period .result)
-  counts = omega (arith, c .loop-test .taken, c .before .before .round-up .ensures)
+  counts : k < K H
+  counts = omega (arith, c .loop-test .taken, jobs-are H)
+
+  few : suc k ≤ 1000000
+  few = omega (arith, counts, jobs-few (working (Z H .pre)))
+
+  exists : (s : ℕ) × Start (tb (Z H)) (P (Z H)) (Z H .args .b) (Z H .args .i) (Z H .args .q) (suc k) s
+      × (s + Z H .args .q ≤ Z H .pre .period)
+  exists = job-exists (working (Z H .pre)) (suc k) (omega arith) counts
+
+  short : exists .0 ≤ 1000000
+  short = omega (arith, exists .2, Z H .pre .within)
+
+-- its base
+based : (c : tie.After-base-of Inv-loop μ-loop) → let j = c .before .before in let x = Z (H j) in
+    c .base-of .result ≡ x .args .b + (suc (k j) * tb x .C (x .args .i) - x .args .q)
+based c = omega (arith, c .base-of .ensures)
 
 -- its start
 module _ (c : tie.After-start Inv-loop μ-loop) where
-  abbrev Z : tie.Start Inv-loop μ-loop
-  Z = S (A (c .before))
+  abbrev J : tie.In-loop Inv-loop μ-loop
+  J = c .before .before .before .before
 
-  starts : Start (tb Z) (P Z) (Z .args .b) (Z .args .i) (Z .args .q) (suc (k (c .before))) (c .start .result)
-  starts = rw (add-one (k (c .before))) at (c .start .ensures)
+  abbrev X : tie.Start Inv-loop μ-loop
+  X = Z (H J)
 
-  job : Job (tb Z) (Z .args .i) (Z .args .q) (k (c .before)) (c .start .result)
-  job = job-known (working (A (c .before))) (k (c .before)) (counts (c .before)) starts
+  starts : Start (tb X) (P X) (X .args .b) (X .args .i) (X .args .q) (suc (k J)) (c .start .result)
+  starts =
+      let e = exists J in
+      let a = X .args in
+      subst (Start (tb X) (P X) (a .b) (a .i) (a .q) (suc (k J)))
+      (sym (start-found (above-asking (H J)) (a .b) (a .i) (a .q) (suc (k J)) (based (c .before .before)) (short J)
+      (e .1) (c .start .ensures))) (e .1)
+
+  job : Job (tb X) (X .args .i) (X .args .q) (k J) (c .start .result)
+  job = job-known (working (X .pre)) (k J) (counts J) starts
+
+level-of-requires : tie.Need-level-of-requires Inv-loop μ-loop
+level-of-requires c κs =
+    let s = c .before .before .before .before .before .before in
+    (s .pre .sound .few, inside (s .pre) (c .before .more .result) (c .before .more .ensures), refl)
+
+active-side-requires : tie.Need-active-side-requires Inv-loop μ-loop
+active-side-requires c κs =
+    let v = c .before .before in
+    (asking v .small, blocking-small (S v .pre), omega arith, omega arith)
 
 active-period-requires : tie.Need-active-period-requires Inv-loop μ-loop
 active-period-requires c κs =
-    let s = c .before .before .before in
-    let p = s .pre in
-    let from = within-first (tb s) (P s) (s .args .b) (s .args .i) (sound-positive (tb s) (p .0 .sound)) (p .2) in
-    (p .0, p .1, p .2, from (c .active-side .ensures) (p .5 .active) (p .5 .within))
+    let v = c .before .before .before .before in (
+      asking v .small,
+      blocking-small (S v .pre),
+      rw (c .before .active-side .ensures) (within (S v .pre) (more v) (v .before .before .more .ensures) (asking v)),
+    )
+
+level-of-requires-2 : tie.Need-level-of-requires-2 Inv-loop μ-loop
+level-of-requires-2 c κs =
+    let w = W (c .before .before) in
+    let s = S w in
+    (s .pre .sound .few, λ j e. omega (arith, s .pre .inside j e), w .level-of .kept .1 .1 .0)
 
 loop-holds : tie.Need-loop-holds Inv-loop μ-loop
 loop-holds c =
-    let least = c .before .before .active-side .ensures in
-    (passed-none _ _ _ _ _, search needs, λ s st. omega (arith, first-ends (working (c .before)) st))
+    let h = c .before in
+    let least = least-is (A h) in
+    (passed-none _ _ _ _ _, omega arith, λ s st. omega (arith, first-ends (working (Z h .pre)) st))
+
+base-of-requires : tie.Need-base-of-requires Inv-loop μ-loop
+base-of-requires c κs =
+    let x = Z (H (c .before)) in
+    (blocking-small (x .pre), run x .high, x .pre .most, omega arith, omega (arith, few (c .before)))
 
 start-requires : tie.Need-start-requires Inv-loop μ-loop
 start-requires c κs =
-    let p = S (A c) .pre in
-    let starts = job-starts (working (A c)) (k c) (counts c) (c .before .loop .inv .2) in
-    let last = counts c in
-    let few = jobs-few (working (A c)) in
-    (p .0, p .1, p .2, p .4, omega arith, omega arith, rw (add-one (k c)) starts)
+    let j = c .before .before .before in
+    let e = exists j in
+    let a = above-asking (H j) in
+    let x = Z (H j) in
+    let from = start-within a (x .args .b) (x .args .i) (x .args .q) (suc (k j)) (based (c .before)) (short j) (e .1) in
+    (a .small, from (j .before .loop .inv .2 (e .0) (e .1)))
 
 loop-again : tie.Need-loop-again Inv-loop μ-loop
 loop-again c =
     let d = c .before in
-    let l = d .before .before .loop in
-    let took = d .start .result + Z d .args .q - l .k * tb (Z d) .T (Z d .args .i) in
+    let j = J d in
+    let l = j .before .loop in
+    let took = d .start .result + X d .args .q - l .k * tb (X d) .T (X d .args .i) in
     let e : c .if1 .largest ≡ max (l .largest) took =
     ⊎-elim (λ w. omega (arith, w .0 .taken, w .1)) (λ w. omega (arith, w .0 .left, w .1)) (c .if1 .came) in (
       rw e (passed-more (l .inv .0) (starts d) (job d)),
-      omega (arith, d .before .loop-test .taken),
-      λ s st. next-low (working (A (d .before))) (suc (l .k)) (omega arith) (starts d) (rw (add-one (l .k)) at st),
+      omega (arith, j .loop-test .taken),
+      λ s st. next-low (working (X d .pre)) (suc (l .k)) (omega arith) (starts d) (rw (add-one (l .k)) at st),
     )
 
 returns : tie.Need-returns Inv-loop μ-loop
 returns c =
-    let a = c .before .before .before in
+    let h = c .before .before .before in
     let l = c .before .loop in
-    let all : l .k ≡ jobs (tb (S a)) (P (S a)) (S a .args .b) (S a .args .i) (a .active-period .result) =
-    omega (arith, c .loop-test .left, c .before .before .round-up .ensures) in
-    passed-all (working a) (rw all at (l .inv .0))
+    let all : l .k ≡ K h = omega (arith, l .inv .1, c .loop-test .left, jobs-are h) in
+    passed-all (working (Z h .pre)) (rw all at (l .inv .0))
 
 pub response-spec : {M : Type 1} → statement M
-response-spec = tie.close (tie.spec Inv-loop μ-loop (λ c. search needs) (λ c. search needs) (λ c. search needs)
-    (λ c. omega (arith, run (c .before) .high)) (λ c. search needs) (λ c. search needs) (λ c. search needs)
-    (λ c. omega (arith, spacing (c .before .before) .high))
-    (λ c κs. let p = c .before .before .pre in (p .0, p .1, p .2, omega arith)) active-period-requires
-    (λ c κs. let t = spacing (S c) in (t .low, omega (arith, working c .within, t .high)))
-    (λ c. omega (arith, length-first (working (c .before)), c .before .before .active-side .ensures)) loop-holds
-    (λ c. omega (arith, counts c, jobs-few (working (A c)))) start-requires (λ c. omega (arith, job c .ends))
+response-spec = tie.close (tie.spec Inv-loop μ-loop
+    (λ c. let p = c .before .pre in omega (arith, p .row, p .sound .few))
+    (λ c. let p = c .before .pre in omega (arith, p .row, p .sound .few)) (λ c. search needs) (λ c. search needs)
+    (λ c. let p = c .before .before .before .before .pre in omega (arith, p .row, p .sound .few))
+    (λ c κs. let p = c .before .before .before .before .pre in (omega (arith, p .row, p .sound .few), p .apart))
+    (λ c. refl) level-of-requires (λ c. omega (arith, c .before .level-of .ensures .few)) (λ c. fits (c .before))
+    (λ c. sym (length-take-le _ _ (fits (c .before .before)))) active-side-requires
+    (λ c. omega (arith, c .before .before .before .level-of .ensures .few)) (λ c. fits (c .before .before .before))
+    (λ c. sym (length-take-le _ _ (fits (c .before .before .before .before)))) active-period-requires
+    (λ c κs. let t = spacing (S (W c)) in (t .low, omega (arith, same c, S (W c) .pre .within, t .high)))
+    (λ c. sym (W (c .before .before) .level-of .kept .1 .1 .0)) level-of-requires-2
+    (λ c. omega (arith, least-is (A (c .before)), length-first (working (Z (c .before) .pre)))) loop-holds
+    (λ c. let p = Z (H c) .pre in omega (arith, p .row, p .sound .few))
+    (λ c. let p = Z (H c) .pre in omega (arith, p .row, p .sound .few)) (λ c. omega (arith, few (c .before)))
+    base-of-requires (λ c. omega (arith, H (c .before .before) .level-of2 .ensures .few))
+    (λ c. above-fits (H (c .before .before)))
+    (λ c. sym (length-take-le _ _ (above-fits (H (c .before .before .before))))) start-requires
+    (λ c. omega (arith, job c .ends))
     (λ c. omega (arith, job c .released)) (λ c. omega (arith, job c .after))
-    (λ c. omega (arith, job (c .before) .ends, run (Z (c .before)) .high)) (λ c. search needs) (λ c. search needs)
+    (λ c. omega (arith, job (c .before) .ends, run (X (c .before)) .high)) (λ c. search needs) (λ c. search needs)
     loop-again returns)

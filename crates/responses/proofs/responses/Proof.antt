@@ -1,113 +1,115 @@
 -- `responses` meets its contract: each row passed has its response in its place, and the places not reached hold 0.
 use Prim.Native.Nat.{ℕ, _≤_, _<_, _-_}
-use mathlib.Core.Path.{_≡_, refl, _∙_}
+use mathlib.Core.Path.{_≡_, refl, sym, _∙_, subst}
 use native.Mathlib.Omega.{arith}
 use lib.ListN.{length-set, length, getD}
 use borrow.Author.Count.{below-none}
 use borrow.Author.Needs.{needs}
+use Rattle.marks.specs.inside.Marks.{marked}
 use Rattle.tables.specs.Table.{Table}
 use Rattle.tables.specs.Plan.{planOf}
 use Rattle.tables.specs.inside.Rows.{tableIn}
 use Rattle.tables.proofs.Plan.{cap-run}
-use Rattle.test.specs.Test.{ResponseOf}
-use Rattle.sides.specs.inside.Asks.{asking, askingIn}
-use Rattle.responses.specs.inside.Asked.{Planned}
-use Rattle.responses.proofs.Asking.{planned-for, plan-response-of}
-use Rattle.responses.proofs.Row.{Placed, set-inside, blocking-small, active-here, response-here, response-small}
-use Rattle.responses.proofs.Stored.{stored, zeros, unreached}
+use Rattle.test.specs.Test.{Response, ResponseOf}
+use Rattle.sides.specs.inside.Asks.{many}
+use Rattle.sides.proofs.Pairs.{zeros}
+use Rattle.responses.specs.inside.Asked.{Ranked}
+use Rattle.responses.proofs.Row.{Placed, ranked, response-here, response-small}
+use Rattle.responses.proofs.Stored.{stored, unreached}
 use Rattle.responses.proofs.responses.Statement.{statement}
 use Rattle.responses.proofs.responses.Tie as tie
 
 abbrev Inv-loop : tie.InvT-loop
-Inv-loop n plan asks times₀ i₀ times i =
-    (i ≤ n) × (length times ≡ 32) × ((j : ℕ) → j < i → ResponseOf (askingIn asks n) (planOf plan) j (getD times j 0))
+Inv-loop rows n asks plan times₀ i₀ times i =
+    (i ≤ n) × (length times ≡ 32) × ((j : ℕ) → j < i → ResponseOf (tableIn rows n) (planOf plan) j (getD times j 0))
     × ((j : ℕ) → i ≤ j → getD times j 0 ≡ 0)
 
 abbrev μ-loop : tie.MeasureT-loop
-μ-loop n plan asks times₀ i₀ times i = n - i
+μ-loop rows n asks plan times₀ i₀ times i = n - i
 
--- what the rows ask with, planned as they are
-module _ (a : tie.After-asks-of Inv-loop μ-loop) where
+-- the row in hand
+module _ (l : tie.In-loop Inv-loop μ-loop) where
   abbrev s : tie.Start Inv-loop μ-loop
-  s = a .before .before
+  s = l .before .before .before .before
 
-  abbrev tb : Table
-  tb = tableIn (s .args .rows) (s .args .n)
+  -- its table, of n rows or of as many as there are asks
+  abbrev table : ℕ → Table
+  table n = tableIn (s .args .rows) n
 
-  abbrev asked : Table
-  asked = askingIn (a .asks-of .result) (s .args .n)
+  rows : many (s .args .asks .now) ≡ s .args .n
+  rows = omega (arith, s .pre .1 .long)
 
-  same : asked ≡ asking tb
-  same = a .asks-of .ensures .same (s .args .n)
-
-  planned : Planned asked (s .args .plan .now)
-  planned = planned-for tb same (s .args .plan .now) (s .pre)
-
--- the row in hand, with the rows above it and its blocking
+-- with the rows above it and its blocking
 module _ (c : tie.After-blocking-of Inv-loop μ-loop) where
   abbrev l : tie.In-loop Inv-loop μ-loop
   l = c .before .before .before .before
 
-  abbrev A : tie.After-asks-of Inv-loop μ-loop
-  A = l .before .before
+  abbrev above : ℕ
+  above = c .before .above-of .result
 
-  placed : Placed (asked A) (s A .args .plan .now) (l .before .loop .i) (c .before .above-of .result)
-      (c .blocking-of .result)
+  abbrev b : ℕ
+  b = c .blocking-of .result
+
+  abbrev i : ℕ
+  i = l .before .loop .i
+
+  placed : Placed (table l (s l .args .n)) (s l .args .plan .now) i above b
   placed =
       record {
-        planned = planned A;
+        planned = s l .pre .0;
         row = l .loop-test .taken;
         over = c .before .above-of .ensures;
         under = c .blocking-of .ensures;
       }
+
+-- and its response
+responds : (c : tie.After-response Inv-loop μ-loop) → let d = c .before in let z = s (l d) in
+    Response (table (l d) (z .args .n)) (marked (above d)) (b d) (i d) (planOf (z .args .plan .now) .len (i d))
+    (c .response .result)
+responds c =
+    let d = c .before in
+    let q = planOf (s (l d) .args .plan .now) .len (i d) in
+    subst (λ m. Response (table (l d) m) (marked (above d)) (b d) (i d) q (c .response .result)) (rows (l d))
+    (c .response .ensures)
 
 loop-holds : tie.Need-loop-holds Inv-loop μ-loop
 loop-holds c = (search needs, refl, below-none _, λ j _. zeros 32 j)
 
 cast-response : tie.Need-cast-response Inv-loop μ-loop
 cast-response c =
-    let w = placed (c .before) in
+    let w = placed c in
     omega (arith, cap-run _ _ (w .planned .plan .len-high _ (w .row)), w .planned .sound .row _ (w .row) .C .high)
 
 response-requires : tie.Need-response-requires Inv-loop μ-loop
 response-requires c κs =
-    let w = placed (c .before) in
-    let p = w .planned in (
-      record { sound = p .sound; inside = set-inside w },
-      blocking-small w,
-      w .row,
-      p .plan .len-low _ (w .row),
-      cap-run _ _ (p .plan .len-high _ (w .row)),
-      active-here w,
-    )
+    let z = s (l c) in
+    subst (λ m. Ranked (table (l c) m) (z .args .asks .now) (above c) (b c) (i c)
+    (planOf (z .args .plan .now) .len (i c))) (sym (rows (l c))) (ranked (placed c) (z .pre .1))
 
 loop-again : tie.Need-loop-again Inv-loop μ-loop
 loop-again c =
-    let w = placed (c .before .before) in
-    let here = l (c .before .before) .before .loop in (
+    let w = placed (c .before) in
+    let here = l (c .before) .before .loop in (
       search needs,
       length-set (here .times) (here .i) (c .response .result) ∙ here .inv .1,
       stored (ResponseOf _ _) (here .times) (here .i) (c .response .result)
-          (omega (arith, w .row, w .planned .sound .few, here .inv .1)) (here .inv .2)
-          (response-here w (c .response .ensures)),
+          (omega (arith, w .row, w .planned .sound .few, here .inv .1)) (here .inv .2) (response-here w (responds c)),
       unreached (here .times) (here .i) (c .response .result) (here .inv .3),
     )
 
 returns : tie.Need-returns Inv-loop μ-loop
 returns c =
-    let a = c .before .before in
     let here = c .before .loop in
     record {
-      each = λ j h. plan-response-of (tb a) (same a) (s a .args .plan .now) (here .inv .2 j (omega arith));
+      each = λ j h. here .inv .2 j (omega arith);
       past = λ j h. here .inv .3 j (omega arith);
       whole = here .inv .1;
     }
 
 pub responses-spec : {M : Type 1} → statement M
-responses-spec = tie.close (tie.spec Inv-loop μ-loop (λ c κs. search needs) loop-holds (λ c. search needs)
-    (λ c. search needs) (λ c. search needs) (λ c. search needs) (λ c. search needs) (λ c. search needs)
-    (λ c κs. let p = planned (c .before .before .before .before) in (p .sound .few, p .whole))
-    (λ c κs. let p = planned (c .before .before .before .before .before) in (p .sound .few, p .whole))
-    cast-response response-requires
-    (λ c. omega (arith, response-small (placed (c .before .before)) (c .response .ensures))) (λ c. search needs)
+responses-spec = tie.close (tie.spec Inv-loop μ-loop loop-holds (λ c. search needs) (λ c. search needs)
+    (λ c. search needs) (λ c. search needs) (λ c. search needs) (λ c. search needs)
+    (λ c κs. let p = s (c .before .before) .pre .0 in (p .sound .few, p .whole))
+    (λ c κs. let p = s (c .before .before .before) .pre .0 in (p .sound .few, p .whole)) cast-response
+    response-requires (λ c. omega (arith, response-small (placed (c .before)) (responds c))) (λ c. search needs)
     (λ c. search needs) (λ c. search needs) (λ c. search needs) loop-again returns)

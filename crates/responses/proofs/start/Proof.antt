@@ -2,32 +2,34 @@
 use Prim.Native.Nat.{_≤_, _+_, _-_}
 use mathlib.Core.Path.{sym, _∙_}
 use native.Mathlib.Omega.{arith}
-use Rattle.marks.specs.inside.Marks.{marked}
-use Rattle.sides.specs.inside.Asks.{askingIn}
-use Rattle.test.specs.Test.{horizon, upto, start-side}
+use Rattle.test.specs.Test.{horizon}
 use Rattle.counting.proofs.Least.{Climbing, climbing-stops}
-use Rattle.test.proofs.Sides.{start-side-mono}
+use Rattle.sides.specs.inside.Level.{start-of}
+use Rattle.sides.proofs.Level.{start-of-mono}
 use Rattle.sides.proofs.Climb.{reached-first, reached-next}
 use Rattle.responses.proofs.start.Statement.{statement}
 use Rattle.responses.proofs.start.Tie as tie
 
 abbrev Inv-loop : tie.InvT-loop
-Inv-loop asks n above b i q k low s₀ s =
-    Climbing (start-side (askingIn asks n) (marked above) b i upto q k) 0 s × (s ≤ horizon)
+Inv-loop level base low s₀ s = Climbing (start-of level base) 0 s × (s ≤ horizon)
 
 abbrev μ-loop : tie.MeasureT-loop
-μ-loop asks n above b i q k low s₀ s = horizon + 1 - s
+μ-loop level base low s₀ s = horizon + 1 - s
 
 loop-holds : tie.Need-loop-holds Inv-loop μ-loop
-loop-holds c =
-    let w = c .pre .6 in
-    reached-first (start-side-mono _ _ _ _ _ _) (w .starts) (w .within) (omega arith) (omega arith) (w .lower)
+loop-holds c = reached-first (start-of-mono _ _) (c .before .pre .1)
+
+start-side-requires : tie.Need-start-side-requires Inv-loop μ-loop
+start-side-requires c κs =
+    let p = c .before .before .pre in
+    let w = p .1 in
+    (p .0, omega (arith, w .fixed .holds, w .within), c .loop .inv .1)
 
 loop-again : tie.Need-loop-again Inv-loop μ-loop
 loop-again c =
     let a = c .before in
-    let w = a .before .before .pre .6 in
-    reached-next (start-side-mono _ _ _ _ _ _) (w .starts) (w .within) (a .before .loop .inv) (a .start-side .ensures)
+    let l = a .before in
+    reached-next (start-of-mono _ _) (l .before .before .pre .1) (l .loop .inv) (a .start-side .ensures)
 
 loop-less : tie.Need-loop-less Inv-loop μ-loop
 loop-less c =
@@ -38,6 +40,5 @@ returns : tie.Need-returns Inv-loop μ-loop
 returns c = climbing-stops (c .before .before .loop .inv .0) (sym (c .if1 .taken) ∙ c .before .start-side .ensures)
 
 pub start-spec : {M : Type 1} → statement M
-start-spec = tie.close (tie.spec Inv-loop μ-loop loop-holds
-    (λ c κs. let p = c .before .pre in (p .0, p .1, p .2, p .3, p .4, p .5, c .loop .inv .1)) loop-less loop-again
-    returns)
+start-spec =
+    tie.close (tie.spec Inv-loop μ-loop loop-holds start-side-requires loop-less loop-again returns)

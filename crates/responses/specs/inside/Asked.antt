@@ -1,21 +1,29 @@
 -- What the functions of the response times ask for and answer.
 use Prim.Native.Nat.{ℕ, _*_, _≤_, _<_}
 use mathlib.Core.Path.{_≡_}
-use mathlib.Core.Bool.{Bool, _&&_}
+use mathlib.Core.Bool.{true, false, _&&_}
 use mathlib.Core.List.{List}
 use lib.Dec.{ltb}
 use lib.ListN.{length, getD}
 use Rattle.marks.specs.inside.Marks.{marked}
 use Rattle.tables.specs.Table.{Table, Sound, most-rows}
 use Rattle.tables.specs.Plan.{Plan, WellFormed, plan-width, planOf}
-use Rattle.test.specs.Test.{horizon, BusyWithin, Start, above, blocking, ResponseOf}
+use Rattle.test.specs.Test.{horizon, BusyWithin, Active, above, blocking, ResponseOf}
+use Rattle.sides.specs.inside.Asks.{Asks}
 
--- job k of row i has a start up to H, and low does not pass it
-pub record StartWithin (tb : Table) (P : ℕ → Bool) (b i q k low : ℕ) : Type 0 where
-  pub start : ℕ
-  pub starts : Start tb P b i q k start
-  pub within : start ≤ horizon
-  pub lower : low ≤ start
+-- row i of a sound table, with the rows of the set above it, blocking b and length q, has an active period up to H; and
+-- what the table's rows ask with
+pub record Ranked (tb : Table) (asks : List ℕ) (set b i q : ℕ) : Type 0 where
+  pub sound : Sound tb
+  pub asked : Asks tb asks
+  pub inside : (j : ℕ) → marked set j ≡ true → j < tb .n
+  pub apart : marked set i ≡ false
+  pub row : i < tb .n
+  pub some : 1 ≤ q
+  pub most : q ≤ tb .C i
+  pub period : ℕ
+  pub active : Active tb (marked set) b i period
+  pub within : period ≤ horizon
 
 -- the set marks the rows below n of higher rank than r, and no others
 abbrev pub Above : Plan → ℕ → ℕ → ℕ → Type 0
