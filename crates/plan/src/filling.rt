@@ -2,6 +2,7 @@
 ghost use Rattle.tables.specs.Table.{Sound};
 ghost use Rattle.tables.specs.inside.Rows.{tableIn};
 ghost use Rattle.test.specs.Test.{BusyWithin};
+ghost use Rattle.sides.specs.inside.Asks.{Asks};
 ghost use Rattle.plan.specs.inside.Ended.{Ended};
 use search::Pick;
 use tables::PLAN_WIDTH;
@@ -16,8 +17,8 @@ pub struct Filling {
 }
 
 // As many rows are unplaced as the rank says that is filled next, and all of them are tried.
-pub fn fill(rows: [Row; 32], n: usize) -> Filling
-    requires { ⌜ Sound (tableIn rows n) × BusyWithin (tableIn rows n) ⌝ }
+pub fn fill(rows: [Row; 32], n: usize, asks: &[u64]) -> Filling
+    requires { ⌜ Sound (tableIn rows n) × BusyWithin (tableIn rows n) × Asks (tableIn rows n) (now asks) ⌝ }
     ensures { λ r. ⌜ Ended (tableIn rows n) r ⌝ }
 {
     let mut plan = [0u32; 64];
@@ -26,7 +27,7 @@ pub fn fill(rows: [Row; 32], n: usize) -> Filling
     let mut blocking: u64 = 0;
     while unplaced != 0 {
         let rank = marks::size(unplaced);
-        let pick = search::choose(rows, n, unplaced, unplaced, blocking);
+        let pick = search::choose(rows, asks, unplaced, unplaced, blocking);
         let Pick::Taken(row, len, response) = pick else {
             return Filling {
                 stopped: rank,

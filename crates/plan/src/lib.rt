@@ -6,6 +6,7 @@ ghost use Rattle.tables.specs.inside.Rows.{tableIn};
 ghost use Rattle.tables.specs.Answer.{resultOf};
 ghost use Rattle.choice.specs.Answers.{PlanAnswer};
 ghost use Rattle.plan.specs.inside.Given.{PlanRest};
+use sides::ASK_WIDTH;
 use sides::periods::Busy;
 use tables::Answer;
 use tables::PLANNED_WIDTH;
@@ -21,11 +22,13 @@ fn plan_of(rows: [Row; 32], n: usize, out: &mut [u32]) -> Answer
     if out.len() < PLANNED_WIDTH * n {
         return Answer::Room;
     }
-    let busy = sides::periods::busy_period(rows, n);
+    let all = sides::asks_of(rows, n);
+    let asks = &all[..ASK_WIDTH * n];
+    let busy = sides::periods::busy_period(asks);
     if let Busy::Beyond = busy {
         return Answer::NoBusy;
     }
-    let filled = filling::fill(rows, n);
+    let filled = filling::fill(rows, n, asks);
     if filled.stopped != 0 {
         return Answer::NoPlan;
     }

@@ -4,7 +4,9 @@ ghost use Prim.Native.Nat.{_+_, _-_, min, _≤_, _<_};
 ghost use Rattle.marks.specs.inside.Marks.{marked};
 ghost use Rattle.tables.specs.Table.{most};
 ghost use Rattle.tables.specs.inside.Rows.{tableIn};
+ghost use Rattle.sides.specs.inside.Asks.{many};
 ghost use Rattle.search.specs.inside.Choose.{Searchable, Picked};
+use sides::ASK_WIDTH;
 use tables::Row;
 
 // The row that takes the rank, with its length and its response; or nothing, where no row has a passing length.
@@ -40,15 +42,14 @@ fn next_length(low: u64, high: u64, cap: u64) -> u64
 
 // The rows to try are given beside the unplaced ones. The active period, and what is asked for in its first tick, are
 // the same for every row of the level. No row is tried after one that takes the rank with length 1.
-pub fn choose(rows: [Row; 32], n: usize, unplaced: u32, tried: u32, blocking: u64) -> Pick
-    requires { ⌜ Searchable rows n unplaced tried blocking ⌝ }
-    ensures { λ r. ⌜ Picked (tableIn rows n) (marked unplaced) blocking (marked tried) r ⌝ }
+pub fn choose(rows: [Row; 32], asks: &[u64], unplaced: u32, tried: u32, blocking: u64) -> Pick
+    requires { ⌜ Searchable (tableIn rows (many (now asks))) (now asks) unplaced tried blocking ⌝ }
+    ensures { λ r. ⌜ Picked (tableIn rows (many (now (asks .entry)))) (marked unplaced) blocking (marked tried) r ⌝ }
 {
-    let asks = sides::asks_of(rows);
-    let first = marks::next(unplaced);
-    let others = marks::less(unplaced, first);
-    let least = sides::active_side(&asks, n, others, blocking, first as usize, 1);
-    let period = sides::periods::active_period(&asks, n, others, blocking, first as usize, least);
+    let mut level = [0u64; 64];
+    let all = sides::level_of(asks, unplaced, &mut level);
+    let least = sides::active_side(&level[..ASK_WIDTH * all], blocking, 1);
+    let period = sides::periods::active_period(&level[..ASK_WIDTH * all], blocking, least);
     let mut row: u32 = 0;
     let mut best: u64 = 0;
     let mut response: u64 = 0;
@@ -56,7 +57,8 @@ pub fn choose(rows: [Row; 32], n: usize, unplaced: u32, tried: u32, blocking: u6
     'rows: while rest != 0 {
         let i = marks::next(rest);
         rest = marks::less(rest, i);
-        let above = marks::less(unplaced, i);
+        let others = marks::less(unplaced, i);
+        let above = sides::level_of(asks, others, &mut level);
         let own = rows[i as usize];
         let c = own.c as u64;
         let t = own.t as u64;
@@ -76,12 +78,13 @@ pub fn choose(rows: [Row; 32], n: usize, unplaced: u32, tried: u32, blocking: u6
             let passes = 'jobs: loop {
                 let released = (k - 1) * t;
                 let due = released + own.d as u64;
+                let base = sides::base_of(own, blocking, len, k);
                 let start = loop {
                     // Each value is a lower bound of the start: where it is too late, the job misses.
                     if due < s + len {
                         break 'jobs false;
                     }
-                    let next = sides::start_side(&asks, n, above, blocking, i as usize, len, k, s);
+                    let next = sides::start_side(&level[..ASK_WIDTH * above], base, s);
                     if next == s {
                         break s;
                     }

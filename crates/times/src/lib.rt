@@ -8,6 +8,7 @@ ghost use Rattle.tables.specs.Answer.{resultOf};
 ghost use Rattle.tables.specs.inside.Checked.{Says};
 ghost use Rattle.test.specs.Answers.{TimesAnswer, VerdictAnswer, times-width};
 ghost use Rattle.times.specs.inside.Given.{Written, InTime, TimesRest, VerdictRest};
+use sides::ASK_WIDTH;
 use sides::periods::Busy;
 use tables::Answer;
 use tables::PlanCheck;
@@ -56,11 +57,13 @@ fn times_of(rows: [Row; 32], n: usize, plan: &[u32], out: &mut [u32]) -> Answer
     if out.len() < TIMES_WIDTH * n {
         return Answer::Room;
     }
-    let busy = sides::periods::busy_period(rows, n);
+    let all = sides::asks_of(rows, n);
+    let asks = &all[..ASK_WIDTH * n];
+    let busy = sides::periods::busy_period(asks);
     if let Busy::Beyond = busy {
         return Answer::NoBusy;
     }
-    write(responses::responses(rows, n, plan), n, out);
+    write(responses::responses(rows, n, asks, plan), n, out);
     Answer::Given((TIMES_WIDTH * n) as u32)
 }
 
@@ -73,11 +76,13 @@ fn verdict_of(rows: [Row; 32], n: usize, plan: &[u32]) -> Answer
     if let PlanCheck::AtFault(at) = form {
         return Answer::Plan(at);
     }
-    let busy = sides::periods::busy_period(rows, n);
+    let all = sides::asks_of(rows, n);
+    let asks = &all[..ASK_WIDTH * n];
+    let busy = sides::periods::busy_period(asks);
     if let Busy::Beyond = busy {
         return Answer::NoBusy;
     }
-    if in_time(rows, n, responses::responses(rows, n, plan)) {
+    if in_time(rows, n, responses::responses(rows, n, asks, plan)) {
         return Answer::Given(1);
     }
     Answer::Given(0)

@@ -1,12 +1,18 @@
 -- `plan_of` meets its contract: the checks 2 and 4, the filling and its stop, then the parts.
-use Prim.Native.Nat.{_*_}
+use Prim.Native.Nat.{_≤_, _*_}
+use mathlib.Core.Path.{sym}
 use mathlib.Core.Logic.{⊎-elim}
 use native.Mathlib.Omega.{arith}
+use lib.ListN.{length, take}
+use lib.Seq.{length-take-le}
 use borrow.Author.Needs.{needs}
 use Rattle.tables.specs.Refusal.{Clear}
 use Rattle.tables.specs.Checks.{room}
 use Rattle.tables.specs.inside.Rows.{tableIn}
 use Rattle.test.specs.Test.{BusyWithin}
+use Rattle.sides.specs.inside.Asks.{Asks}
+use Rattle.sides.specs.inside.Found.{BusyFound}
+use Rattle.sides.proofs.Busy.{busy-asks, busy-found}
 use Rattle.tables.specs.Planned.{planned-width}
 use Rattle.tables.proofs.Answered.{_past_}
 use Rattle.tables.proofs.Front.{room-refuses, room-clear}
@@ -19,16 +25,37 @@ use Rattle.plan.proofs.plan_of.Tie as tie
 roomy : (c : tie.Else1) → let s = c .before .before in Clear (room (planned-width * s .args .n) (s .args .out .now))
 roomy c = let s = c .before .before in room-clear (planned-width * s .args .n) (s .args .out .now) (c .if1 .left)
 
--- and a busy period
+-- what the rows ask with
+module _ (a : tie.After-asks-of) where
+  abbrev T : tie.Start
+  T = a .before .before .before
+
+  asks : Asks (tableIn (T .args .rows) (T .args .n)) (take (2 * T .args .n) (a .asks-of .result))
+  asks = a .asks-of .ensures .front
+
+  fits : 2 * T .args .n ≤ length (a .asks-of .result)
+  fits = omega (arith, a .asks-of .ensures .whole, T .pre .few)
+
+-- whether there is a busy period
+found : (c : tie.After-busy-period) → let s = T (c .before .before) in
+    BusyFound (tableIn (s .args .rows) (s .args .n)) (c .busy-period .result)
+found c =
+    let a = c .before .before in
+    busy-found (T a .pre) (asks a) (c .busy-period .result) (c .busy-period .ensures)
+
+-- and there is one
 module _ (c : tie.After-enum-told2) where
+  abbrev A : tie.After-asks-of
+  A = c .before .before .before .before
+
   abbrev E : tie.Else1
-  E = c .before .before .before
+  E = A .before
 
   abbrev S : tie.Start
-  S = E .before .before
+  S = T A
 
   busy : BusyWithin (tableIn (S .args .rows) (S .args .n))
-  busy = busy-within _ (c .before .before .busy-period .ensures) (c .enum-told2 .given .1)
+  busy = busy-within _ (found (c .before .before)) (c .enum-told2 .given .1)
 
 returns : tie.Need-returns
 returns c = room-refuses _ _ (c .if1 .taken)
@@ -36,7 +63,7 @@ returns c = room-refuses _ _ (c .if1 .taken)
 returns-2 : tie.Need-returns-2
 returns-2 c =
     let b = c .before .before in
-    roomy (b .before) past busy-refuses _ (b .busy-period .ensures) _ (c .enum-told .given .1)
+    roomy (b .before .before .before) past busy-refuses _ (found b) _ (c .enum-told .given .1)
 
 returns-3 : tie.Need-returns-3
 returns-3 c =
@@ -65,6 +92,8 @@ returns-4 c =
     (f .fill .ensures)
 
 pub plan-of-spec : {M : Type 1} → statement M
-plan-of-spec = tie.close (tie.spec (λ c. search needs) returns (λ c κs. search needs) (λ c. search needs)
-    returns-2 (λ c. search needs) (λ c κs. (S c .pre, busy c)) returns-3 write-requires (λ c. search needs)
+plan-of-spec = tie.close (tie.spec (λ c. search needs) returns (λ c κs. search needs)
+    (λ c. omega (arith, T c .pre .few)) (λ c. fits c) (λ c. sym (length-take-le _ _ (fits (c .before))))
+    (λ c κs. busy-asks (T (c .before) .pre) (asks (c .before))) (λ c. search needs)
+    returns-2 (λ c. search needs) (λ c κs. (S c .pre, busy c, asks (A c))) returns-3 write-requires (λ c. search needs)
     (λ c. search needs) (λ c. search needs) returns-4)

@@ -1,32 +1,37 @@
 -- `choose` meets its contract: rows, lengths and jobs are walked, and at each way out what is known is one law of Seen,
 -- Lengths or Trial.
 use Prim.Native.Nat.{ℕ, _≤_, _<_, _+_, _*_, _-_}
-use mathlib.Core.Path.{_≡_, sym, ap, _∙_, subst}
+use mathlib.Core.Path.{_≡_, refl, sym, ap, _∙_, subst}
 use mathlib.Core.Bool.{Bool, true, false}
+use mathlib.Core.List.{List}
 use mathlib.Core.Logic.{_⊎_, inl, inr, ⊎-elim}
 use native.Mathlib.Omega.{arith}
 use native.Mathlib.Nat.{pos-of-ne-zero, mul-le-mul}
+use lib.Count.{trailingZeros}
+use lib.ListN.{length, take}
+use lib.Seq.{length-take-le}
 use borrow.Author.Needs.{needs}
 use Rattle.counting.specs.Sum.{without}
 use Rattle.counting.proofs.Cases.{not-both}
 use Rattle.counting.proofs.Sum.{without-elim}
 use Rattle.marks.specs.inside.Marks.{marked}
+use Rattle.marks.proofs.Marks.{next-by-zeros}
 use Rattle.tables.specs.Table.{Table, Within}
 use Rattle.tables.specs.Plan.{cap}
 use Rattle.tables.specs.inside.Rows.{tableIn}
 use Rattle.tables.proofs.Plan.{cap-is, cap-run}
 use Rattle.test.specs.Test.{horizon, upto, Active, active-side, start-side, Response}
-use Rattle.test.proofs.Load.{sound-positive}
 use Rattle.test.proofs.Response.{response-unique}
-use Rattle.sides.specs.inside.Asks.{asking, askingIn}
-use Rattle.sides.specs.inside.Level.{Level}
-use Rattle.sides.proofs.Asks.{sound-for, run-for, active-side-of, start-side-of}
-use Rattle.sides.proofs.Lower.{within-first}
+use Rattle.sides.specs.inside.Asks.{many}
+use Rattle.sides.specs.inside.Level.{start-of}
+use Rattle.sides.proofs.Level.{Asking, start-of-is}
+use Rattle.sides.proofs.Asking.{asking-packed}
 use Rattle.responses.proofs.Jobs.{Working, jobs-few, length-first}
 use Rattle.choice.specs.Choice.{Fits}
-use Rattle.search.proofs.Period.{positive, blocking-within, period-exists, period-within, side-same, period-same}
+use Rattle.search.proofs.Period.{positive, blocking-within, period-within, period-first, period-exists}
+use Rattle.search.proofs.Period.{period-found}
 use Rattle.search.proofs.Trial.{Trial, trial-first, trial-within, trial-again, trial-misses, trial-after}
-use Rattle.search.proofs.Trial.{trial-next, trial-passes}
+use Rattle.search.proofs.Trial.{trial-base, trial-next, trial-passes}
 use Rattle.search.proofs.Lengths.{Narrowed, narrowed-first, narrowed-fits, narrowed-misses}
 use Rattle.search.proofs.Seen.{Seen, Worth, worth-le, seen-first, seen-same, seen-better, seen-one, seen-all}
 use Rattle.search.proofs.Seen.{seen-none}
@@ -34,39 +39,40 @@ use Rattle.search.proofs.choose.Statement.{statement}
 use Rattle.search.proofs.choose.Tie as tie
 
 abbrev Inv-loop : tie.InvT-loop
-Inv-loop n unplaced tried b rows asks first others least period row best response rest i above own c t jobs cap
-    low high time len k largest s₀ released due s =
-    Trial (tableIn rows n) (without (marked unplaced) i) b i len period k s largest
+Inv-loop asks unplaced tried b rows level all least period row best response rest i others above own c t jobs cap
+    low high time len k largest s₀ released due base s =
+    Trial (tableIn rows (many asks)) (without (marked unplaced) i) b i len period k s largest
 
 abbrev μ-loop : tie.MeasureT-loop
-μ-loop n unplaced tried b rows asks first others least period row best response rest i above own c t jobs cap low
-    high time len k largest s₀ released due s = horizon + 1 - s
+μ-loop asks unplaced tried b rows level all least period row best response rest i others above own c t jobs cap low
+    high time len k largest s₀ released due base s = horizon + 1 - s
 
 abbrev Inv-jobs : tie.InvT-jobs
-Inv-jobs n unplaced tried b rows asks first others least period row best response rest i above own c t jobs cap
+Inv-jobs asks unplaced tried b rows level all least period row best response rest i others above own c t jobs cap
     low high time len k₀ largest₀ s₀ k largest s =
-    Trial (tableIn rows n) (without (marked unplaced) i) b i len period k s largest
+    Trial (tableIn rows (many asks)) (without (marked unplaced) i) b i len period k s largest
 
 abbrev μ-jobs : tie.MeasureT-jobs
-μ-jobs n unplaced tried b rows asks first others least period row best response rest i above own c t jobs cap low
+μ-jobs asks unplaced tried b rows level all least period row best response rest i others above own c t jobs cap low
     high time len k₀ largest₀ s₀ k largest s = jobs + 1 - k
 
 abbrev Inv-lengths : tie.InvT-lengths
-Inv-lengths n unplaced tried b rows asks first others least period row best response rest i above own c t jobs cap
+Inv-lengths asks unplaced tried b rows level all least period row best response rest i others above own c t jobs cap
     low₀ high₀ time₀ len₀ low high time len =
-    Narrowed (tableIn rows n) (without (marked unplaced) i) b i cap low high time
+    Narrowed (tableIn rows (many asks)) (without (marked unplaced) i) b i cap low high time
     × (low < high → (low ≤ len) × (len < high))
 
 abbrev μ-lengths : tie.MeasureT-lengths
-μ-lengths n unplaced tried b rows asks first others least period row best response rest i above own c t jobs cap
+μ-lengths asks unplaced tried b rows level all least period row best response rest i others above own c t jobs cap
     low₀ high₀ time₀ len₀ low high time len = high - low
 
 abbrev Inv-rows : tie.InvT-rows
-Inv-rows n unplaced tried b rows asks first others least period row₀ best₀ response₀ rest₀ row best response rest =
-    Seen (tableIn rows n) (marked unplaced) b (marked tried) row best response rest
+Inv-rows asks unplaced tried b rows level₀ all least period row₀ best₀ response₀ rest₀ level row best response rest =
+    Seen (tableIn rows (many asks)) (marked unplaced) b (marked tried) row best response rest × (length level ≡ 64)
 
 abbrev μ-rows : tie.MeasureT-rows
-μ-rows n unplaced tried b rows asks first others least period row₀ best₀ response₀ rest₀ row best response rest = rest
+μ-rows asks unplaced tried b rows level₀ all least period row₀ best₀ response₀ rest₀ level row best response rest =
+    rest
 
 -- a place, or a need, under these invariants
 abbrev Under : (tie.InvT-loop → tie.MeasureT-loop → tie.InvT-jobs → tie.MeasureT-jobs → tie.InvT-lengths →
@@ -76,7 +82,7 @@ Under X = X Inv-loop μ-loop Inv-jobs μ-jobs Inv-lengths μ-lengths Inv-rows μ
 -- ---- the level
 module _ (s : Under tie.Start) where
   abbrev tb : Table
-  tb = tableIn (s .args .t1) (s .args .n)
+  tb = tableIn (s .args .t1) (many (s .args .asks .now))
 
   abbrev U : ℕ → Bool
   U = marked (s .args .unplaced)
@@ -84,81 +90,68 @@ module _ (s : Under tie.Start) where
   abbrev b : ℕ
   b = s .args .blocking
 
--- ---- what its rows ask with
-module _ (a : Under tie.After-asks-of) where
-  abbrev asked : Table
-  asked = askingIn (a .asks-of .result) (a .before .args .n)
+  -- it has a row
+  some : U (trailingZeros 32 (s .args .unplaced)) ≡ true
+  some = next-by-zeros (s .args .unplaced) (s .pre .some) (s .fits .unplaced .fits) .first .holds
 
-  same : asked ≡ asking (tb (a .before))
-  same = a .asks-of .ensures .same (a .before .args .n)
+-- ---- the level, packed
+module _ (w : Under tie.After-level-of) where
+  abbrev packed : Under tie.Start
+  packed = w .before .before .before
 
-  -- the rows but i, as a set
-  others : (i r : ℕ) → marked r ≡ without (U (a .before)) i → Level (a .asks-of .result) (a .before .args .n) r
-  others i r e =
-      record {
-        sound = sound-for (tb (a .before)) same (a .before .pre .sound);
-        inside = λ j m. without-elim (U (a .before)) i j (ap (λ Q. Q j) (sym e) ∙ m)
-            (λ _ u. a .before .pre .inside j u);
-      }
+  abbrev all : List ℕ
+  all = w .level-of .last .1 .1 .0
 
--- ---- its first row
-module _ (c : Under tie.After-less) where
-  abbrev F : Under tie.After-asks-of
-  F = c .before .before
+  all-fits : 2 * w .level-of .result ≤ length all
+  all-fits = omega (arith, w .level-of .ensures .few, w .level-of .kept .1 .1 .0)
 
-  abbrev first : ℕ
-  first = c .before .next .result
-
-  abbrev rest : ℕ → Bool
-  rest = marked (c .less .result)
-
-  marked-first : U (F .before) first ≡ true
-  marked-first = c .before .next .ensures .first .holds
-
-  level-side : let s = F .before in active-side (asked F) rest (b s) first ≡ active-side (tb s) rest (b s) first
-  level-side = active-side-of (tb (F .before)) (same F) rest (b (F .before)) first
+  all-asking : Asking (tb packed) (U packed) (take (2 * w .level-of .result) all)
+  all-asking =
+      asking-packed (packed .pre .sound) (packed .pre .asked) (w .level-of .kept .1 .1 .0) (w .level-of .ensures)
 
 -- ---- where the level began
 abbrev begun : Under tie.After-active-period → Under tie.Start
-begun a = F (a .before .before .before .before) .before
+begun a = packed (a .before .before .before .before .before)
 
 -- ---- the row in hand
-module _ (h : Under tie.After-less3) where
+module _ (h : Under tie.After-level-of2) where
+  abbrev N : Under tie.After-next
+  N = h .before .before .before .before
+
+  abbrev rows : Under tie.At-rows
+  rows = N .before .before
+
   abbrev A : Under tie.After-active-period
-  A = h .before .before .before .before .before
+  A = rows .before
 
-  abbrev N : Under tie.After-less
-  N = A .before .before .before .before
-
-  abbrev O : Under tie.After-asks-of
-  O = F N
+  abbrev W : Under tie.After-level-of
+  W = A .before .before .before .before .before
 
   abbrev S : Under tie.Start
-  S = begun A
+  S = packed W
 
   abbrev L : ℕ
   L = A .active-period .result
 
   abbrev i : ℕ
-  i = h .before .before .next2 .result
+  i = N .next .result
+
+  -- the rows left to try after it
+  abbrev left : Under tie.After-less
+  left = h .before .before .before
 
   -- the rows above it
   abbrev P : ℕ → Bool
   P = without (U S) i
 
-  abbrev rows : Under tie.At-rows
-  rows = h .before .before .before .before
-
   unplaced : U S i ≡ true
-  unplaced = S .pre .among i (rows .rows .inv .among i (h .before .before .next2 .ensures .first .holds))
+  unplaced = S .pre .among i (rows .rows .inv .0 .among i (N .next .ensures .first .holds))
 
-  inside : i < S .args .n
+  inside : i < tb S .n
   inside = S .pre .inside i unplaced
 
   active : Active (tb S) P (b S) i L
-  active =
-      period-same (S .pre) (first N) i (marked-first N) unplaced
-      (rw (level-side N, N .less .ensures .marks) at (A .active-period .ensures))
+  active = period-found (S .pre) i unplaced (all-asking W) (A .active-period .ensures)
 
   short : L ≤ horizon
   short = period-within (S .pre) i unplaced active
@@ -168,9 +161,22 @@ module _ (h : Under tie.After-less3) where
   least = A .before .before .active-side .result
 
   least-is : least ≡ active-side (tb S) P (b S) i 1
-  least-is =
-      A .before .before .active-side .ensures
-      ∙ rw (level-side N, N .less .ensures .marks) (side-same (S .pre) (first N) i 1 (marked-first N) unplaced)
+  least-is = A .before .before .active-side .ensures ∙ period-first (S .pre) i unplaced (all-asking W)
+
+  -- the rows above it, packed
+  abbrev level : List ℕ
+  level = h .level-of2 .last .1 .1 .0
+
+  whole : length level ≡ 64
+  whole = h .level-of2 .kept .1 .1 .0 ∙ rows .rows .inv .1
+
+  fits : 2 * h .level-of2 .result ≤ length level
+  fits = omega (arith, h .level-of2 .ensures .few, whole)
+
+  asking : Asking (tb S) P (take (2 * h .level-of2 .result) level)
+  asking =
+      subst (λ Q. Asking (tb S) Q (take (2 * h .level-of2 .result) level)) (h .before .before .less2 .ensures .marks)
+      (asking-packed (S .pre .sound) (S .pre .asked) whole (h .level-of2 .ensures))
 
   runs : Within (tb S .C i)
   runs = S .pre .sound .row i inside .C
@@ -180,8 +186,8 @@ module _ (h : Under tie.After-less3) where
 
 -- ---- its longest length worth a try
 module _ (c : Under tie.After-cap-of) where
-  abbrev H : Under tie.After-less3
-  H = c .before .before .before .before .before
+  abbrev H : Under tie.After-level-of2
+  H = c .before .before .before .before .before .before
 
   abbrev top : ℕ
   top = c .cap-of .result
@@ -197,7 +203,7 @@ module _ (c : Under tie.After-cap-of) where
 
 -- ---- the length that is tried
 module _ (c : Under tie.In-lengths) where
-  abbrev R : Under tie.After-less3
+  abbrev R : Under tie.After-level-of2
   R = H (c .before .before)
 
   abbrev q : ℕ
@@ -252,7 +258,7 @@ module _ (c : Under tie.At-jobs) where
 -- ---- one value of a start's iteration
 module _ (c : Under tie.At-loop) where
   abbrev J : Under tie.At-jobs
-  J = c .before .before
+  J = c .before .before .before
 
   abbrev I : Under tie.In-lengths
   I = J .before
@@ -260,13 +266,15 @@ module _ (c : Under tie.At-loop) where
   abbrev side : ℕ
   side = start-side (tb (S (R I))) (P (R I)) (b (S (R I))) (i (R I)) upto (q I) (J .jobs .k) (c .loop .s)
 
-  -- what the asks give for it
-  turned : start-side (asked (O (R I))) (marked (R I .less3 .result)) (b (S (R I))) (i (R I)) upto (q I) (J .jobs .k)
-      (c .loop .s) ≡ side
-  turned = let h = R I in rw (h .less3 .ensures .marks, start-side-of (tb (S h)) (same (O h)) (P h) (b (S h)) (i h))
-
   within : c .loop .s + q I ≤ horizon
   within = omega (arith, trial-within (working I) (c .loop .inv), short (R I))
+
+  -- what the level gives for it
+  turned : start-of (take (2 * R I .level-of2 .result) (level (R I))) (c .before .base-of .result) (c .loop .s) ≡ side
+  turned =
+      let h = R I in
+      start-of-is (asking h) (b (S h)) (i h) (q I) (J .jobs .k) (c .before .base-of .ensures) (c .loop .s)
+      (omega (arith, within))
 
 -- ---- where a value repeats
 module _ (c : Under tie.Then2) where
@@ -308,48 +316,56 @@ module _ (c : Under tie.After-lengths) where
   abbrev K : Under tie.After-cap-of
   K = c .before .before
 
-  abbrev G : Under tie.After-less3
+  abbrev G : Under tie.After-level-of2
   G = H K
 
   abbrev Leads : ℕ → ℕ → ℕ → Type 0
   Leads row best time =
-      Seen (tb (S G)) (U (S G)) (b (S G)) (marked (S G .args .tried)) row best time (G .before .less2 .result)
+      Seen (tb (S G)) (U (S G)) (b (S G)) (marked (S G .args .tried)) row best time (left G .less .result)
 
   better : c .before .lengths .high ≤ top K → Leads (i G) (c .before .lengths .high) (c .before .lengths .time)
-  better = seen-better (rows G .rows .inv) (G .before .before .next2 .ensures) (G .before .less2 .ensures) (inside G)
+  better = seen-better (rows G .rows .inv .0) (N G .next .ensures) (left G .less .ensures) (inside G)
       (worth K) (c .before .lengths .inv .0) (c .lengths-test .left)
 
   unchanged : top K < c .before .lengths .high → Leads (rows G .rows .row) (rows G .rows .best) (rows G .rows .response)
-  unchanged = seen-same (rows G .rows .inv) (G .before .before .next2 .ensures) (G .before .less2 .ensures) (inside G)
+  unchanged = seen-same (rows G .rows .inv .0) (N G .next .ensures) (left G .less .ensures) (inside G)
       (worth K) (c .before .lengths .inv .0) (c .lengths-test .left)
+
+level-of-requires : Under tie.Need-level-of-requires
+level-of-requires c κs = let p = c .before .before .pre in (p .sound .few, p .inside, refl)
 
 active-side-requires : Under tie.Need-active-side-requires
 active-side-requires c κs =
-    let d = c .before in
-    let s = F d .before in
-    let v = others (F d) (first d) (d .less .result) (d .less .ensures .marks) in
-    (v, blocking-within (s .pre), s .pre .inside (first d) (marked-first d), omega arith)
+    let w = c .before .before in
+    (all-asking w .small, blocking-within (packed w .pre), omega arith, omega arith)
 
 active-period-requires : Under tie.Need-active-period-requires
 active-period-requires c κs =
-    let d = c .before .before .before in
-    let s = F d .before in
-    let v = others (F d) (first d) (d .less .result) (d .less .ensures .marks) in
-    let l = s .pre .inside (first d) (marked-first d) in
-    let r = period-exists (s .pre) (first d) (marked-first d) in
-    let a : Active (asked (F d)) (rest d) (b s) (first d) (r .0) =
-    rw (level-side d, d .less .ensures .marks) (r .1) in
-    let from = within-first (asked (F d)) (rest d) (b s) (first d) (sound-positive (asked (F d)) (v .sound)) l in
-    (v, blocking-within (s .pre), l, from (c .before .active-side .ensures) a (r .2))
+    let w = c .before .before .before .before in
+    let s = packed w in (
+      all-asking w .small,
+      blocking-within (s .pre),
+      rw (c .before .active-side .ensures) (period-exists (s .pre) _ (some s) (all-asking w)),
+    )
 
 rows-holds : Under tie.Need-rows-holds
-rows-holds c = seen-first _ _ _ _
+rows-holds c = (seen-first _ _ _ _, c .before .before .before .before .before .level-of .kept .1 .1 .0)
 
-less-requires-3 : Under tie.Need-less-requires-3
-less-requires-3 c κs =
-    let n = c .before .next2 .ensures in
+less-requires-2 : Under tie.Need-less-requires-2
+less-requires-2 c κs =
+    let n = c .before .next .ensures in
     let r = c .before .before .before in
-    (n .inside, begun (r .before) .pre .among _ (r .rows .inv .among _ (n .first .holds)))
+    (n .inside, begun (r .before) .pre .among _ (r .rows .inv .0 .among _ (n .first .holds)))
+
+level-of-requires-2 : Under tie.Need-level-of-requires-2
+level-of-requires-2 c κs =
+    let r = c .before .before .before .before .before in
+    let p = begun (r .before) .pre in (
+      p .sound .few,
+      λ j m. without-elim (marked _) _ j (ap (λ Q. Q j) (sym (c .before .less2 .ensures .marks)) ∙ m)
+          (λ _ u. p .inside j u),
+      r .rows .inv .1,
+    )
 
 lengths-holds : Under tie.Need-lengths-holds
 lengths-holds c = (narrowed-first _ _ _ _ _, search needs)
@@ -358,25 +374,25 @@ jobs-holds : Under tie.Need-jobs-holds
 jobs-holds c = trial-first (working c) (least (R c)) (least-is (R c))
 
 loop-holds : Under tie.Need-loop-holds
-loop-holds c = c .before .jobs .inv
+loop-holds c = c .before .before .jobs .inv
 
 add-due : Under tie.Need-add-due
 add-due c =
     let h = R (c .before .before) in
     omega (arith, released (c .before), S h .pre .sound .row (i h) (inside h) .D .high)
 
+base-of-requires : Under tie.Need-base-of-requires
+base-of-requires c κs =
+    let x = c .before .before in
+    let h = R x in
+    (blocking-within (S h .pre), runs h .high, working x .most, c .before .jobs .inv .low, job-few (c .before))
+
 start-side-requires : Under tie.Need-start-side-requires
 start-side-requires c κs =
     let a = c .before .before in
-    let h = R (I a) in (
-      others (O h) (i h) (h .less3 .result) (h .less3 .ensures .marks),
-      blocking-within (S h .pre),
-      inside h,
-      run-for (tb (S h)) (same (O h)) (i h) (q (I a)) (working (I a) .most),
-      a .loop .inv .low,
-      job-few (J a),
-      omega (arith, within a),
-    )
+    let h = R (I a) in
+    let base = trial-base (working (I a)) (a .loop .inv) in
+    (asking h .small, omega (arith, a .before .base-of .ensures, short h), omega (arith, within a))
 
 loop-less : Under tie.Need-loop-less
 loop-less c =
@@ -414,57 +430,67 @@ lengths-again : Under tie.Need-lengths-again
 lengths-again c = (outcome (c .before) .0, c .next-length .ensures)
 
 rows-again : Under tie.Need-rows-again
-rows-again c = seen-one (c .if6 .taken) (better (c .before .before) (c .before .if5 .taken))
+rows-again c =
+    let d = c .before .before in
+    (seen-one (c .if6 .taken) (better d (c .before .if5 .taken)), whole (G d))
 
 rows-again-2 : Under tie.Need-rows-again-2
-rows-again-2 c = better (c .before .before) (c .before .if5 .taken)
+rows-again-2 c = let d = c .before .before in (better d (c .before .if5 .taken), whole (G d))
 
 rows-again-3 : Under tie.Need-rows-again-3
-rows-again-3 c = unchanged (c .before) (c .if5 .left)
+rows-again-3 c = (unchanged (c .before) (c .if5 .left), whole (G (c .before)))
 
 returns : Under tie.Need-returns
-returns c = seen-none (c .before .before .rows .inv) (c .before .rows-test .left) (c .if7 .taken)
+returns c = seen-none (c .before .before .rows .inv .0) (c .before .rows-test .left) (c .if7 .taken)
 
-cast-t58 : Under tie.Need-cast-t58
-cast-t58 c =
+cast-t64 : Under tie.Need-cast-t64
+cast-t64 c =
     let r = c .before .before in
-    let f = r .rows .inv .found (pos-of-ne-zero (c .if7 .left)) in
+    let f = r .rows .inv .0 .found (pos-of-ne-zero (c .if7 .left)) in
     omega (arith, cap-run _ _ (f .2 .holds .0), begun (r .before) .pre .sound .row (r .rows .row) (f .0) .C .high)
 
-cast-t59 : Under tie.Need-cast-t59
-cast-t59 c =
+cast-t65 : Under tie.Need-cast-t65
+cast-t65 c =
     let r = c .before .before .rows in
     let s = begun (c .before .before .before) in
     let some = pos-of-ne-zero (c .if7 .left) in
-    let f = r .inv .found some in
+    let f = r .inv .0 .found some in
     let x = f .2 .holds .1 in
     let same = response-unique (tb s) (without (U s) (r .row)) (b s) (r .row) (r .best) (r .response) (x .R)
-    (r .inv .timed some) (x .response) in
+    (r .inv .0 .timed some) (x .response) in
     omega (arith, x .within, s .pre .sound .row (r .row) (f .0) .D .high)
 
 returns-2 : Under tie.Need-returns-2
 returns-2 c =
-    let w = c .before .before .rows .inv in
+    let w = c .before .before .rows .inv .0 in
     let some = pos-of-ne-zero (c .if7 .left) in
     (seen-all w (c .before .rows-test .left) some, w .timed some)
 
 pub choose-spec : {M : Type 1} → statement M
-choose-spec = tie.close (tie.spec Inv-loop μ-loop Inv-jobs μ-jobs Inv-lengths μ-lengths Inv-rows μ-rows
-    (λ c κs. search needs) (λ c κs. c .before .pre .some)
-    (λ c κs. (c .next .ensures .inside, c .next .ensures .first .holds)) (λ c. search needs) active-side-requires
-    (λ c. search needs) active-period-requires rows-holds (λ c κs. pos-of-ne-zero (c .rows-test .taken))
-    (λ c κs. (c .next2 .ensures .inside, c .next2 .ensures .first .holds)) less-requires-3 (λ c. search needs)
-    (λ c. search needs) (λ c. search needs) (λ c. search needs) (λ c. search needs)
-    (λ c κs. let h = c .before .before .before in (spaced h .low, omega (arith, short h, spaced h .high)))
+choose-spec = tie.close (tie.spec Inv-loop μ-loop Inv-jobs μ-jobs Inv-lengths μ-lengths Inv-rows μ-rows (λ c. refl)
+    level-of-requires (λ c. omega (arith, c .before .level-of .ensures .few)) (λ c. all-fits (c .before))
+    (λ c. sym (length-take-le _ _ (all-fits (c .before .before)))) active-side-requires
+    (λ c. omega (arith, c .before .before .before .level-of .ensures .few))
+    (λ c. all-fits (c .before .before .before))
+    (λ c. sym (length-take-le _ _ (all-fits (c .before .before .before .before)))) active-period-requires rows-holds
+    (λ c κs. pos-of-ne-zero (c .rows-test .taken))
+    (λ c κs. (c .next .ensures .inside, c .next .ensures .first .holds)) less-requires-2
+    (λ c. sym (c .before .before .before .before .before .rows .inv .1)) level-of-requires-2 (λ c. search needs)
+    (λ c. omega (arith, N (c .before) .next .ensures .inside))
+    (λ c. N (c .before) .next .ensures .inside) (λ c. search needs) (λ c. search needs)
+    (λ c κs. let h = c .before .before .before .before in (spaced h .low, omega (arith, short h, spaced h .high)))
     (λ c κs. search needs) (λ c. omega (arith, top-run c, runs (H c) .high)) lengths-holds
     (λ c. omega (arith, length-first (working c), least-is (R c))) jobs-holds (λ c. c .jobs .inv .low)
-    (λ c. omega (arith, released c)) (λ c. search needs) add-due loop-holds (λ c. omega (arith, within c))
-    (λ c. search needs) start-side-requires loop-less loop-again (λ c. omega (arith, within (E c)))
+    (λ c. omega (arith, released c)) (λ c. search needs) add-due base-of-requires loop-holds
+    (λ c. omega (arith, within c)) (λ c. omega (arith, R (I (c .before)) .level-of2 .ensures .few))
+    (λ c. fits (R (I (c .before)))) (λ c. sym (length-take-le _ _ (fits (R (I (c .before .before))))))
+    start-side-requires loop-less loop-again (λ c. omega (arith, within (E c)))
     (λ c. omega (arith, trial-after (working (I (E c))) (E c .loop .inv) (repeats c))) (λ c κs. search needs)
     (λ c. omega (arith, job-few (J (E (c .before .before)))))
     (λ c. let a = E (c .before .before) in omega (arith, within a, runs (R (I a)) .high)) jobs-less jobs-again
     (λ c. let x = I (c .before .before) in omega (arith, working x .most, runs (R x) .high)) next-length-requires
     lengths-less lengths-again
-    (λ c. pos-of-ne-zero (G (c .before .before) .before .before .before .rows-test .taken)) rows-again
-    (λ c. G (c .before .before) .before .less2 .ensures .smaller) rows-again-2
-    (λ c. G (c .before) .before .less2 .ensures .smaller) rows-again-3 returns cast-t58 cast-t59 returns-2)
+    (λ c. pos-of-ne-zero (N (G (c .before .before)) .before .rows-test .taken)) rows-again
+    (λ c. left (G (c .before .before)) .less .ensures .smaller) rows-again-2
+    (λ c. left (G (c .before)) .less .ensures .smaller) rows-again-3 returns cast-t64 cast-t65
+    returns-2)

@@ -6,22 +6,22 @@ use mathlib.Core.List.{List}
 use Rattle.counting.specs.Sum.{without}
 use Rattle.marks.specs.inside.Marks.{marked}
 use Rattle.tables.specs.Table.{Table, Sound}
-use Rattle.tables.specs.inside.Rows.{tableIn}
-use Rattle.tables.specs.declared.Row.{Row}
 use Rattle.test.specs.Test.{before, load, busy-side, BusyWithin, Response}
+use Rattle.sides.specs.inside.Asks.{Asks}
 use Rattle.choice.specs.Choice.{Takes, NoneFits}
 use Rattle.search.specs.declared.Pick.{Pick}
 use Rattle.search.specs.declared.Pick.the-variants.{Taken, Nothing}
 
 -- a level of a table that has its busy period: some rows are unplaced, those to try are among them, and the blocking
--- and what the unplaced rows ask for is never more than what all rows ask for
-pub record Searchable (rows : List Row) (n unplaced tried b : ℕ) : Type 0 where
-  pub sound : Sound (tableIn rows n)
-  pub inside : (j : ℕ) → marked unplaced j ≡ true → j < n
+-- and what the unplaced rows ask for is never more than what all rows ask for; and what the table's rows ask with
+pub record Searchable (tb : Table) (asks : List ℕ) (unplaced tried b : ℕ) : Type 0 where
+  pub sound : Sound tb
+  pub asked : Asks tb asks
+  pub inside : (j : ℕ) → marked unplaced j ≡ true → j < tb .n
   pub some : 0 < unplaced
   pub among : (j : ℕ) → marked tried j ≡ true → marked unplaced j ≡ true
-  pub busy : BusyWithin (tableIn rows n)
-  pub room : (t : ℕ) → 1 ≤ t → b + load before (tableIn rows n) (marked unplaced) t ≤ busy-side (tableIn rows n) t
+  pub busy : BusyWithin tb
+  pub room : (t : ℕ) → 1 ≤ t → b + load before tb (marked unplaced) t ≤ busy-side tb t
 
 -- the row that takes the rank and its length there, and R is its response; or no row fits at all
 abbrev pub Picked : Table → (ℕ → Bool) → ℕ → (ℕ → Bool) → Pick → Type 0

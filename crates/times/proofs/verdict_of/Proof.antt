@@ -1,9 +1,17 @@
 -- `verdict_of` meets its contract: the checks 6 and 4 in this order, then the responses against the deadlines.
+use Prim.Native.Nat.{_≤_, _*_}
+use mathlib.Core.Path.{sym}
+use native.Mathlib.Omega.{arith}
+use lib.ListN.{length, take}
+use lib.Seq.{length-take-le}
 use borrow.Author.Needs.{needs}
 use Rattle.tables.specs.Table.{Table}
 use Rattle.tables.specs.Refusal.{Clear}
 use Rattle.tables.specs.inside.Rows.{tableIn}
 use Rattle.tables.specs.Checks.{plan-form}
+use Rattle.sides.specs.inside.Asks.{Asks}
+use Rattle.sides.specs.inside.Found.{BusyFound}
+use Rattle.sides.proofs.Busy.{busy-asks, busy-found}
 use Rattle.responses.specs.inside.Asked.{Planned}
 use Rattle.tables.proofs.Checked.{says-yes, says-no}
 use Rattle.tables.proofs.Answered.{_past_}
@@ -24,14 +32,31 @@ module _ (c : tie.After-enum-told) where
   form : Clear (plan-form tb (S .args .plan .now))
   form = form-clear tb (S .args .plan .now) (c .before .before .check-plan .ensures) (c .enum-told .given .1)
 
--- and there is a busy period
-module _ (c : tie.After-enum-told3) where
+-- what the rows ask with
+module _ (a : tie.After-asks-of) where
   abbrev D : tie.After-enum-told
-  D = c .before .before .before
+  D = a .before
 
-  asked : Planned (tb D) (S D .args .plan .now)
-  asked = planned (S D .pre) (form D)
-      (busy-within (tb D) (c .before .before .busy-period .ensures) (c .enum-told3 .given .1))
+  asks : Asks (tb D) (take (2 * S D .args .n) (a .asks-of .result))
+  asks = a .asks-of .ensures .front
+
+  fits : 2 * S D .args .n ≤ length (a .asks-of .result)
+  fits = omega (arith, a .asks-of .ensures .whole, S D .pre .few)
+
+-- whether there is a busy period
+found : (c : tie.After-busy-period) → BusyFound (tb (D (c .before .before))) (c .busy-period .result)
+found c =
+    let a = c .before .before in
+    busy-found (S (D a) .pre) (asks a) (c .busy-period .result) (c .busy-period .ensures)
+
+-- and there is one
+module _ (c : tie.After-enum-told3) where
+  abbrev A : tie.After-asks-of
+  A = c .before .before .before .before
+
+  asked : Planned (tb (D A)) (S (D A) .args .plan .now)
+  asked =
+      planned (S (D A) .pre) (form (D A)) (busy-within (tb (D A)) (found (c .before .before)) (c .enum-told3 .given .1))
 
 returns : tie.Need-returns
 returns c = form-refuses _ _ (c .before .before .before .check-plan .ensures) _ _ (c .before .form .given .1)
@@ -39,23 +64,25 @@ returns c = form-refuses _ _ (c .before .before .before .check-plan .ensures) _ 
 returns-2 : tie.Need-returns-2
 returns-2 c =
     let b = c .before .before in
-    form (b .before) past busy-refuses _ (b .busy-period .ensures) _ (c .enum-told2 .given .1)
+    form (D (b .before .before)) past busy-refuses _ (found b) _ (c .enum-told2 .given .1)
 
 returns-3 : tie.Need-returns-3
 returns-3 c =
     let t = c .before in
     let b = t .before .before in
-    form (D b) past busy-clear (asked b .busy) past verdict-yes (t .before .responses .ensures)
+    form (D (A b)) past busy-clear (asked b .busy) past verdict-yes (t .before .responses .ensures)
     (says-yes (t .in-time .result) (c .if1 .taken) (t .in-time .ensures))
 
 returns-4 : tie.Need-returns-4
 returns-4 c =
     let t = c .before in
     let b = t .before .before in
-    form (D b) past busy-clear (asked b .busy) past verdict-no (t .before .responses .ensures)
+    form (D (A b)) past busy-clear (asked b .busy) past verdict-no (t .before .responses .ensures)
     (says-no (t .in-time .result) (c .if1 .left) (t .in-time .ensures))
 
 pub verdict-of-spec : {M : Type 1} → statement M
 verdict-of-spec = tie.close (tie.spec (λ c κs. search needs) (λ c. search needs) returns (λ c. search needs)
-    (λ c κs. search needs) (λ c. search needs) returns-2 (λ c. search needs) (λ c κs. asked c)
-    (λ c κs. search needs) returns-3 returns-4)
+    (λ c κs. search needs) (λ c. omega (arith, S (D c) .pre .few)) (λ c. fits c)
+    (λ c. sym (length-take-le _ _ (fits (c .before)))) (λ c κs. busy-asks (S (D (c .before)) .pre) (asks (c .before)))
+    (λ c. search needs) returns-2 (λ c. search needs) (λ c κs. (asked c, asks (A c))) (λ c κs. search needs) returns-3
+    returns-4)

@@ -1,6 +1,6 @@
 -- `fill` meets its contract: each turn places the row that takes the rank, and the rank is the number of rows left.
 use Prim.Native.Nat.{ℕ, _<_}
-use mathlib.Core.Path.{subst}
+use mathlib.Core.Path.{_≡_, sym, subst}
 use native.Mathlib.Nat.{pos-of-ne-zero}
 use native.Mathlib.Omega.{arith}
 use borrow.Author.Needs.{needs}
@@ -9,7 +9,8 @@ use Rattle.marks.proofs.Marks.{count-something}
 use Rattle.tables.specs.Table.{Table, most-rows}
 use Rattle.tables.specs.inside.Rows.{tableIn}
 use Rattle.test.proofs.Load.{Positive, sound-positive}
-use Rattle.search.specs.inside.Choose.{Picked}
+use Rattle.sides.specs.inside.Asks.{many}
+use Rattle.search.specs.inside.Choose.{Searchable, Picked}
 use Rattle.search.specs.declared.Pick.{Pick}
 use Rattle.search.specs.declared.Pick.the-variants.{Taken}
 use Rattle.plan.proofs.Going.{Going, going-first, going-room, going-stops, going-ends, going-more}
@@ -17,16 +18,26 @@ use Rattle.plan.proofs.filling.fill.Statement.{statement}
 use Rattle.plan.proofs.filling.fill.Tie as tie
 
 abbrev Inv-loop : tie.InvT-loop
-Inv-loop rows n plan₀ times₀ unplaced₀ blocking₀ plan times unplaced blocking =
+Inv-loop rows n asks plan₀ times₀ unplaced₀ blocking₀ plan times unplaced blocking =
     Going (tableIn rows n) plan times unplaced blocking
 
 abbrev μ-loop : tie.MeasureT-loop
-μ-loop rows n plan₀ times₀ unplaced₀ blocking₀ plan times unplaced blocking = unplaced
+μ-loop rows n asks plan₀ times₀ unplaced₀ blocking₀ plan times unplaced blocking = unplaced
 
 -- ---- the level that is searched
 module _ (c : tie.At-loop Inv-loop μ-loop) where
+  abbrev B : tie.Start Inv-loop μ-loop
+  B = c .before .before .before
+
+  -- the table, of n rows or of as many as there are asks
+  abbrev table : ℕ → Table
+  table n = tableIn (B .args .rows) n
+
   abbrev tb : Table
-  tb = tableIn (c .before .before .args .rows) (c .before .before .args .n)
+  tb = table (B .args .n)
+
+  rows : many (B .args .asks .now) ≡ B .args .n
+  rows = omega (arith, B .pre .2 .long)
 
   abbrev U : ℕ
   U = c .loop .unplaced
@@ -35,7 +46,14 @@ module _ (c : tie.At-loop Inv-loop μ-loop) where
   Picks = Picked tb (marked U) (c .loop .blocking) (marked U)
 
   pos : Positive tb
-  pos = sound-positive tb (c .before .before .pre .0)
+  pos = sound-positive tb (B .pre .0)
+
+-- ---- what the search answers
+chose : (c : tie.After-choose Inv-loop μ-loop) → Picks (c .before .before .before) (c .choose .result)
+chose c =
+    let a = c .before .before .before in
+    subst (λ m. Picked (table a m) (marked (U a)) (a .loop .blocking) (marked (U a)) (c .choose .result)) (rows a)
+    (c .choose .ensures)
 
 -- ---- the row that takes the rank
 module _ (c : tie.After-known-told Inv-loop μ-loop) where
@@ -49,26 +67,28 @@ module _ (c : tie.After-known-told Inv-loop μ-loop) where
   y = c .before .pick .given .0 .0
 
   picked : Picks A (Taken y (c .before .pick .given .0 .1 .0) (c .before .pick .given .0 .1 .1 .0))
-  picked = subst (Picks A) (c .before .pick .given .1) (S .choose .ensures)
+  picked = subst (Picks A) (c .before .pick .given .1) (chose S)
 
   inside : y < most-rows
-  inside = omega (arith, picked .0 .row, A .before .before .pre .0 .few)
+  inside = omega (arith, picked .0 .row, B A .pre .0 .few)
 
 loop-holds : tie.Need-loop-holds Inv-loop μ-loop
-loop-holds c = going-first _ (c .before .pre .0) (c .whole .result) (c .whole .ensures)
+loop-holds c = going-first _ (c .before .before .pre .0) (c .whole .result) (c .whole .ensures)
 
 choose-requires : tie.Need-choose-requires Inv-loop μ-loop
 choose-requires c κs =
     let a = c .before .before in
-    let s = a .before .before in
-    record {
+    let s = B a in
+    subst (λ m. Searchable (table a m) (s .args .asks .now) (U a) (U a) (a .loop .blocking)) (sym (rows a))
+    (record {
       sound = s .pre .0;
+      asked = s .pre .2;
       inside = a .loop .inv .inside;
       some = pos-of-ne-zero (c .before .loop-test .taken);
       among = λ j e. e;
       busy = s .pre .1;
       room = going-room (tb a) (pos a) (a .loop .inv);
-    }
+    })
 
 returns : tie.Need-returns Inv-loop μ-loop
 returns c =
@@ -76,8 +96,8 @@ returns c =
     let a = d .before .before .before in
     going-stops (tb a) (pos a) (a .loop .inv) (d .before .size .ensures)
     (count-something (U a) most-rows (pos-of-ne-zero (d .before .before .loop-test .taken))
-    (λ j m. omega (arith, a .loop .inv .inside j m, a .before .before .pre .0 .few)))
-    (subst (Picks a) (c .enum-told .given .1) (d .choose .ensures))
+    (λ j m. omega (arith, a .loop .inv .inside j m, B a .pre .0 .few)))
+    (subst (Picks a) (c .enum-told .given .1) (chose d))
 
 loop-again : tie.Need-loop-again Inv-loop μ-loop
 loop-again c =
