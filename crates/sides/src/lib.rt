@@ -41,7 +41,7 @@ pub fn asks_of(rows: [Row; 32], n: usize) -> [u64; 64]
 pub fn level_of(asks: &[u64], set: u32, level: &mut [u64]) -> usize
     requires { ⌜ (many (now asks) ≤ most-rows) × ((j : ℕ) → marked set j ≡ true → j < many (now asks))
         × (length (now level) ≡ ask-width * most-rows) ⌝ }
-    ensures { λ r. ⌜ Packed (now (asks .entry)) (marked set) (now (level .exit)) r ⌝ }
+    ensures { λ r. ⌜ Packed (now (asks .entry)) (marked set) (now (level .entry)) (now (level .exit)) r ⌝ }
 {
     let mut m: usize = 0;
     let mut rest = set;

@@ -12,7 +12,7 @@ use Rattle.sides.proofs.level_of.Statement.{statement}
 use Rattle.sides.proofs.level_of.Tie as tie
 
 abbrev Inv-loop : tie.InvT-loop
-Inv-loop asks set level₀ m₀ rest₀ level m rest = Packing asks set level m rest
+Inv-loop asks set level₀ m₀ rest₀ level m rest = Packing asks set level₀ level m rest
 
 abbrev μ-loop : tie.MeasureT-loop
 μ-loop asks set level₀ m₀ rest₀ level m rest = rest

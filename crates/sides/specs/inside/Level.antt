@@ -3,9 +3,10 @@ use Prim.Native.Nat.{ℕ, _+_, _-_, _*_, _/_, _≤_, _<_}
 use mathlib.Core.Path.{_≡_}
 use mathlib.Core.Bool.{Bool}
 use mathlib.Core.List.{List}
-use Rattle.counting.specs.Sum.{given, sum}
+use lib.ListN.{getD}
+use Rattle.counting.specs.Sum.{given, sum, count}
 use Rattle.tables.specs.Table.{most-rows, most}
-use Rattle.sides.specs.inside.Asks.{scale, inverse-of, many, run, inverse}
+use Rattle.sides.specs.inside.Asks.{ask-width, scale, inverse-of, many, run, inverse}
 
 -- what the rows of a level ask for by their releases at s or before
 unfoldable pub asked : List ℕ → ℕ → ℕ
@@ -28,9 +29,11 @@ pub record Small (level : List ℕ) : Type 0 where
   pub runs : (p : ℕ) → p < many level → run level p ≤ most
   pub inverses : (p : ℕ) → p < many level → inverse level p ≤ inverse-of 1
 
--- the first m rows of the level are those rows of the asks at which P passes, in whatever order: what is summed over
--- the ones is what is summed over the others
-pub record Packed (asks : List ℕ) (P : ℕ → Bool) (level : List ℕ) (m : ℕ) : Type 0 where
+-- the first m rows of the level are those rows of the asks at which P passes, each at the place that counts those
+-- before it: what is summed over the ones, by place and row, is what is summed over the others. Behind them the level
+-- is as before.
+pub record Packed (asks : List ℕ) (P : ℕ → Bool) (before level : List ℕ) (m : ℕ) : Type 0 where
   pub few : m ≤ most-rows
-  pub same : (f : ℕ → ℕ → ℕ) → sum (λ p. f (run level p) (inverse level p)) m
-      ≡ sum (λ j. given (P j) (f (run asks j) (inverse asks j))) (many asks)
+  pub same : (f : ℕ → ℕ → ℕ → ℕ) → sum (λ p. f p (run level p) (inverse level p)) m
+      ≡ sum (λ j. given (P j) (f (count P j) (run asks j) (inverse asks j))) (many asks)
+  pub rest : (k : ℕ) → ask-width * m ≤ k → getD level k 0 ≡ getD before k 0
