@@ -7,10 +7,12 @@ use native.Mathlib.Omega.{arith}
 use native.Mathlib.Nat.{pow-suc, le-of-suc-le-suc, not-suc-le-zero, one-mul}
 use lib.Dec.{eqb, ltb, lit<}
 use lib.Pow.{pow-pos, pow-mono, ones-split, high, shl-exact}
+use lib.Bits.{bitAnd, and-step, and-self}
 use lib.Count.{ones, trailingZeros, ones-step}
 use borrow.Author.Tests.{eqb-true, eqb-false, eq-eqb, ne-eqb, lt-ltb, le-ltb}
 use Rattle.counting.specs.Sum.{given, sum, count}
 use Rattle.counting.proofs.Cases.{by-bool, by-eq, by-le, not-both}
+use Rattle.counting.proofs.Least.{least-unique}
 use Rattle.counting.proofs.Sum.{is-without, given-no, sum-zero, sum-ext, sum-front, count-without, count-all}
 use Rattle.marks.specs.inside.Marks.{marked, Whole, Next, Less, More}
 
@@ -144,6 +146,27 @@ less-by-worth i s m =
       marks = fun-ext (λ j. is-without (marked s) i j _ (λ e. rw e (gone-less i s m)) (kept-less i s j m));
       smaller = omega (arith, pow-pos i, worth i s m);
     }
+
+-- a number and one less have all digits in common but the lowest 1 and what is below it
+clears-lowest : (k s : ℕ) → 0 < s → s < 2 ^ k → bitAnd s (s - 1) ≡ s - 2 ^ trailingZeros k s
+unfolding trailingZeros
+clears-lowest zero s p h = absurd (let q : s < 1 = h in omega arith)
+clears-lowest (suc k) s p h =
+    let w = pow-suc 2 k in
+    digit s
+    (λ e.
+    let half : (s - 1) / 2 ≡ s / 2 - 1 = omega arith in
+    let less = clears-lowest k (s / 2) (omega arith) (omega arith) in
+    rw e (omega (arith, and-step s (s - 1), ap (bitAnd (s / 2)) half, pow-suc 2 (trailingZeros k (s / 2)))))
+    (λ e.
+    let half : (s - 1) / 2 ≡ s / 2 = omega arith in
+    rw e (omega (arith, and-step s (s - 1), ap (bitAnd (s / 2)) half, and-self (s / 2))))
+
+pub others-by-and : (s i : ℕ) → 0 < s → s < 2 ^ 32 → Next s i → Less s i (bitAnd s (s - 1))
+others-by-and s i p h n =
+    let first = next-by-zeros s p h in
+    let e : trailingZeros 32 s ≡ i = least-unique (first .first) (n .first) in
+    rw (clears-lowest 32 s p h, e) (less-by-worth i s (n .first .holds))
 
 all-marked : (n j : ℕ) → j < n → marked (2 ^ n - 1) j ≡ true
 unfolding marked

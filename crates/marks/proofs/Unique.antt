@@ -4,7 +4,7 @@ use mathlib.Core.Path.{_≡_, sym, ap, _∙_}
 use mathlib.Core.Bool.{Bool}
 use Rattle.counting.proofs.Least.{least-unique}
 use Rattle.marks.specs.inside.Marks.{Whole, Next, Less, More}
-use Rattle.marks.proofs.Marks.{same-marks}
+use Rattle.marks.proofs.Marks.{same-marks, next-by-zeros}
 
 pub next-unique : {s a b : ℕ} → Next s a → Next s b → a ≡ b
 next-unique p q = least-unique (p .first) (q .first)
@@ -19,3 +19,9 @@ module _ (a b : ℕ) (fits-a : a < 2 ^ 32) (fits-b : b < 2 ^ 32) where
 
   pub more-unique : (s i : ℕ) → More s i a → More s i b → a ≡ b
   more-unique s i p q = same-marks 32 a b fits-a fits-b (λ j. p j ∙ sym (q j))
+
+  pub others-unique : (s : ℕ) → 0 < s → s < 2 ^ 32 → ((i : ℕ) → Next s i → Less s i a) →
+      ((i : ℕ) → Next s i → Less s i b) → a ≡ b
+  others-unique s some fits p q =
+      let n = next-by-zeros s some fits in
+      less-unique s _ (p _ n) (q _ n)

@@ -1,7 +1,7 @@
 // A set of rows as one 32-bit number: row i is marked where binary digit i is 1.
 ghost use mathlib.Core.Path.{_≡_};
 ghost use mathlib.Core.Bool.{true, false};
-ghost use Prim.Native.Nat.{_≤_, _<_};
+ghost use Prim.Native.Nat.{ℕ, _≤_, _<_};
 ghost use Rattle.counting.specs.Sum.{count};
 ghost use Rattle.marks.specs.inside.Marks.{marked, Whole, Next, Less, More};
 
@@ -26,6 +26,14 @@ pub fn next(set: u32) -> u32
     ensures { λ r. ⌜ Next set r ⌝ }
 {
     u32::trailing_zeros(set)
+}
+
+// The set less its first marked row: the lowest digit that is 1, cleared with no look at where it stands.
+pub fn others(set: u32) -> u32
+    requires { ⌜ 0 < set ⌝ }
+    ensures { λ r. ⌜ ((i : ℕ) → Next set i → Less set i r) ⌝ }
+{
+    set & (set - 1)
 }
 
 // The set less a row that is marked.
