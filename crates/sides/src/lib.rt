@@ -49,9 +49,11 @@ pub fn level_of(asks: &[u64], set: u32, level: &mut [u64]) -> usize
         let j = marks::next(rest);
         let from = ASK_WIDTH * (j as usize);
         let to = ASK_WIDTH * m;
-        level[to] = asks[from];
-        level[to + 1] = asks[from + 1];
-        rest = marks::less(rest, j);
+        let run = asks[from];
+        let inverse = asks[from + 1];
+        level[to] = run;
+        level[to + 1] = inverse;
+        rest = marks::others(rest);
         m += 1;
     }
     m

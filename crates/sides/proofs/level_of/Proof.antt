@@ -5,6 +5,7 @@ use lib.ListN.{length-set}
 use native.Mathlib.Omega.{arith}
 use native.Mathlib.Nat.{pos-of-ne-zero}
 use borrow.Author.Needs.{needs}
+use Rattle.marks.specs.inside.Marks.{Less}
 use Rattle.tables.specs.Table.{most-rows}
 use Rattle.sides.specs.inside.Asks.{many}
 use Rattle.sides.proofs.Pack.{Packing, packing-none, packing-room, packing-more, packing-all}
@@ -34,11 +35,16 @@ module _ (a : tie.After-next Inv-loop μ-loop) where
   room : L .loop .m < most-rows
   room = packing-room (S .args .asks .now) (S .args .set) (S .pre .0) (L .loop .inv) (a .next .ensures)
 
+-- the rows left after it
+left : (c : tie.After-others Inv-loop μ-loop) → let a = c .before .before .before in
+    Less (L a .loop .rest) (j a) (c .others .result)
+left c = let a = c .before .before .before in c .others .ensures (j a) (a .next .ensures)
+
 loop-again : tie.Need-loop-again Inv-loop μ-loop
 loop-again c =
     let a = c .before .before .before in
     let s = S a in
-    packing-more (s .args .asks .now) (s .args .set) (s .pre .0) (L a .loop .inv) (a .next .ensures) (c .less .ensures)
+    packing-more (s .args .asks .now) (s .args .set) (s .pre .0) (L a .loop .inv) (a .next .ensures) (left c)
 
 returns : tie.Need-returns Inv-loop μ-loop
 returns c =
@@ -51,12 +57,12 @@ level-of-spec = tie.close (tie.spec Inv-loop μ-loop
     packing-none (s .args .asks .now) (s .args .set) (s .pre .0) _ (s .pre .2) (s .pre .1))
     (λ c κs. pos-of-ne-zero (c .loop-test .taken)) (λ c. search needs) (λ c. omega (arith, c .next .ensures .inside))
     (λ c. omega (arith, room c)) (λ c. omega (arith, c .next .ensures .inside))
-    (λ c. omega (arith, inside (c .before))) (λ c. omega (arith, room (c .before)))
-    (λ c. omega (arith, room (c .before))) (λ c. omega (arith, inside (c .before)))
-    (λ c. omega (arith, inside (c .before)))
-    (λ c. omega (arith, inside (c .before .before))) (λ c. omega (arith, room (c .before .before)))
+    (λ c. omega (arith, inside (c .before))) (λ c. omega (arith, inside (c .before)))
+    (λ c. omega (arith, inside (c .before))) (λ c. omega (arith, inside (c .before .before)))
     (λ c. omega (arith, room (c .before .before)))
+    (λ c. let a = c .before .before in omega (arith, room a, L a .loop .inv .whole))
+    (λ c. omega (arith, room (c .before .before))) (λ c. omega (arith, room (c .before .before)))
     (λ c. let a = c .before .before in simp length-set (omega (arith, room a, L a .loop .inv .whole)))
-    (λ c κs. let n = c .before .before .next .ensures in (n .inside, n .first .holds))
-    (λ c. omega (arith, room (c .before .before .before))) (λ c. c .less .ensures .smaller) loop-again
+    (λ c κs. pos-of-ne-zero (c .before .before .before .loop-test .taken))
+    (λ c. omega (arith, room (c .before .before .before))) (λ c. left c .smaller) loop-again
     (λ c. c .before .loop .inv .whole ∙ sym (c .before .before .before .before .pre .2)) returns)
