@@ -49,6 +49,7 @@ pub fn level_of(asks: &[u64], set: u32, level: &mut [u64]) -> usize
         let j = marks::next(rest);
         let from = ASK_WIDTH * (j as usize);
         let to = ASK_WIDTH * m;
+        // Both are read before either is stored, so that they move as one.
         let run = asks[from];
         let inverse = asks[from + 1];
         level[to] = run;
