@@ -7,7 +7,7 @@ use native.Mathlib.Omega.{arith}
 use native.Mathlib.Nat.{pow-suc, le-of-suc-le-suc, not-suc-le-zero, one-mul}
 use lib.Dec.{eqb, ltb, lit<}
 use lib.Pow.{pow-pos, pow-mono, ones-split, high, shl-exact}
-use lib.Bits.{bitAnd, and-step, and-self}
+use lib.Bits.{bitAnd, and-step, and-self, and-zero-r}
 use lib.Count.{ones, trailingZeros, ones-step}
 use borrow.Author.Tests.{eqb-true, eqb-false, eq-eqb, ne-eqb, lt-ltb, le-ltb}
 use Rattle.counting.specs.Sum.{given, sum, count}
@@ -88,6 +88,27 @@ ones-count (suc k) s h =
     let w = pow-suc 2 k in
     let r = ones-count k (s / 2) (omega arith) in
     omega (arith, sum-head (λ j. given (marked s j) 1) k, ones-step s, lowest-one s)
+
+-- of the digits below i alone the ones are the marks before row i
+pub ones-before : (i s : ℕ) → ones (bitAnd s (2 ^ i - 1)) ≡ count (marked s) i
+unfolding count sum ones marked
+ones-before zero s = ap ones (and-zero-r s)
+ones-before (suc i) s =
+    let x = bitAnd s (2 ^ suc i - 1) in
+    let half : (2 ^ suc i - 1) / 2 ≡ 2 ^ i - 1 = omega (arith, pow-suc 2 i, pow-pos i) in
+    let odd : (2 ^ suc i - 1) % 2 ≡ 1 = omega (arith, pow-suc 2 i, pow-pos i) in
+    let step = and-step s (2 ^ suc i - 1) in
+    let digits : (x / 2 ≡ bitAnd (s / 2) (2 ^ i - 1)) × (x % 2 ≡ s % 2) =
+    let e = ap (bitAnd (s / 2)) half in (omega arith, omega arith) in
+    omega (
+      arith,
+      ones-step x,
+      ap ones (digits .0),
+      digits .1,
+      ones-before i (s / 2),
+      sum-head (λ j. given (marked s j) 1) i,
+      lowest-one s,
+    )
 
 half-more : (i s : ℕ) → (s + 2 ^ suc i) / 2 ≡ s / 2 + 2 ^ i
 half-more i s = let w = pow-suc 2 i in omega arith

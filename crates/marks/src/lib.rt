@@ -36,6 +36,14 @@ pub fn others(set: u32) -> u32
     set & (set - 1)
 }
 
+// How many marked rows stand before row i.
+pub fn place(set: u32, i: u32) -> u32
+    requires { ⌜ i < 32 ⌝ }
+    ensures { λ r. ⌜ r ≡ count (marked set) i ⌝ }
+{
+    u32::count_ones(set & ((1 << i) - 1))
+}
+
 // The set less a row that is marked.
 pub fn less(set: u32, i: u32) -> u32
     requires { ⌜ (i < 32) × (marked set i ≡ true) ⌝ }

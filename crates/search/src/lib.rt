@@ -57,12 +57,12 @@ pub fn choose(rows: [Row; 32], asks: &[u64], unplaced: u32, tried: u32, blocking
     'rows: while rest != 0 {
         let i = marks::next(rest);
         rest = marks::less(rest, i);
-        let others = marks::less(unplaced, i);
-        let above = sides::level_of(asks, others, &mut level);
+        // The others stand above it while it is tried: in the level the last one takes its place.
+        let at = marks::place(unplaced, i) as usize;
+        sides::leave_out(&mut level, all, at);
         let own = rows[i as usize];
         let c = own.c as u64;
         let t = own.t as u64;
-        let jobs = counting::round_up(period, t);
         let cap = cap_of(c, best);
         // No length below low passes; high passes with the response time, or lies past the cap.
         let mut low: u64 = 1;
@@ -84,14 +84,15 @@ pub fn choose(rows: [Row; 32], asks: &[u64], unplaced: u32, tried: u32, blocking
                     if due < s + len {
                         break 'jobs false;
                     }
-                    let next = sides::start_side(&level[..ASK_WIDTH * above], base, s);
+                    let next = sides::start_side(&level[..ASK_WIDTH * (all - 1)], base, s);
                     if next == s {
                         break s;
                     }
                     s = next;
                 };
                 largest = counting::larger(largest, start + len - released);
-                if k == jobs {
+                // Jobs released in the active period count.
+                if period <= released + t {
                     break 'jobs true;
                 }
                 // The next job starts at least C later.
@@ -106,6 +107,7 @@ pub fn choose(rows: [Row; 32], asks: &[u64], unplaced: u32, tried: u32, blocking
             }
             len = next_length(low, high, cap);
         }
+        sides::put_back(&mut level, at, asks, i as usize);
         if high <= cap {
             row = i;
             best = high;

@@ -8,7 +8,8 @@ use lib.Seq.{length-take-le, getD-take}
 use Rattle.counting.proofs.Cases.{by-eq}
 use Rattle.tables.specs.Table.{Table, most-rows}
 use Rattle.sides.specs.inside.Asks.{ask-width, inverse-of, run, inverse, AsksFront}
-use Rattle.sides.proofs.Pairs.{zeros, put, put-length, put-other, put-first, put-second}
+use Rattle.sides.specs.inside.Level.{put}
+use Rattle.sides.proofs.Pairs.{zeros, put-length, put-other, put-first, put-second}
 
 module _ (tb : Table) where
   -- the rows before i have stored theirs, and the places not reached hold 0
@@ -32,17 +33,17 @@ module _ (tb : Table) where
     stored-more l =
         let c = tb .C i in
         let m = inverse-of (tb .T i) in
-        let h : 2 * i + 1 < length asks = omega (arith, w .whole) in
+        let h : ask-width * i + 1 < length asks = omega (arith, w .whole) in
         record {
           whole = put-length asks i c m ∙ w .whole;
           runs =
               λ k g. by-eq k i
               (λ e. rw e (put-first asks i c m h))
-              (λ e. put-other asks i c m (2 * k) (λ f. e (omega arith)) (λ f. omega arith) ∙ w .runs k (omega arith));
+              (λ e. put-other asks i c m (ask-width * k) (λ f. e (omega arith)) (λ f. omega arith) ∙ w .runs k (omega arith));
           inverses =
               λ k g. by-eq k i
               (λ e. rw e (put-second asks i c m h))
-              (λ e. put-other asks i c m (2 * k + 1) (λ f. omega arith) (λ f. e (omega arith))
+              (λ e. put-other asks i c m (ask-width * k + 1) (λ f. omega arith) (λ f. e (omega arith))
               ∙ w .inverses k (omega arith));
           past =
               λ k g. put-other asks i c m k (λ f. omega arith) (λ f. omega arith) ∙ w .past k (omega arith);

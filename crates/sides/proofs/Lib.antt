@@ -7,6 +7,7 @@ pub mod Small
 pub mod Level
 pub mod Pack
 pub mod Asking
+pub mod Left
 pub mod Lower
 pub mod Busy
 pub mod Unique

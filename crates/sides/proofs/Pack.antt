@@ -6,16 +6,19 @@ use mathlib.Core.List.{List}
 use native.Mathlib.Omega.{arith}
 use native.Mathlib.Nat.{zero-add}
 use native.Mathlib.Numerals.{add-one}
+use lib.Dec.{eqb}
 use lib.ListN.{length, getD}
+use borrow.Author.Tests.{ne-eqb}
 use Rattle.counting.specs.Sum.{given, sum, count, without}
 use Rattle.counting.proofs.Cases.{by-bool, by-eq}
-use Rattle.counting.proofs.Sum.{count-all, count-le, count-none, count-without, sum-ext, sum-without, without-elim}
+use Rattle.counting.proofs.Sum.{count-all, count-le, count-none, count-without, sum-delta, sum-ext, sum-without}
+use Rattle.counting.proofs.Sum.{without-elim}
 use Rattle.marks.specs.inside.Marks.{marked, Next, Less}
 use Rattle.marks.proofs.Marks.{sum-none-marked}
 use Rattle.tables.specs.Table.{most-rows}
 use Rattle.sides.specs.inside.Asks.{ask-width, many, run, inverse}
-use Rattle.sides.specs.inside.Level.{Packed}
-use Rattle.sides.proofs.Pairs.{put, put-length, put-other, put-first, put-second}
+use Rattle.sides.specs.inside.Level.{put, Packed}
+use Rattle.sides.proofs.Pairs.{put-length, put-other, put-first, put-second}
 
 -- what is summed over the first m rows of a level, by place and row
 abbrev pub over : List ℕ → ℕ → (ℕ → ℕ → ℕ → ℕ) → ℕ
@@ -114,15 +117,15 @@ module _ (asks : List ℕ) (set : ℕ) (few : many asks ≤ most-rows) where
 
       pub packing-more : {r : ℕ} → Less rest j r → Packing asks set before (put level m c i) (m + 1) r
       packing-more {r} l =
-          let h : 2 * m + 1 < length level = omega (arith, w .whole, packing-room) in
+          let h : ask-width * m + 1 < length level = omega (arith, w .whole, packing-room) in
           record {
             whole = put-length level m c i ∙ w .whole;
             total =
                 λ f.
                 let old = over-same (put level m c i) level m
                 (λ p q. (
-                  put-other level m c i (2 * p) (λ e. omega arith) (λ e. omega arith),
-                  put-other level m c i (2 * p + 1) (λ e. omega arith) (λ e. omega arith),
+                  put-other level m c i (ask-width * p) (λ e. omega arith) (λ e. omega arith),
+                  put-other level m c i (ask-width * p + 1) (λ e. omega arith) (λ e. omega arith),
                 )) f in
                 let new : f m (run (put level m c i) m) (inverse (put level m c i) m) ≡ f m c i =
                 rw (put-first level m c i h, put-second level m c i h) in
@@ -152,3 +155,18 @@ module _ (asks : List ℕ) (set : ℕ) (few : many asks ≤ most-rows) where
               );
           rest = w .behind;
         }
+
+-- what stands at place p of a sum by places
+at-place : (h : ℕ → ℕ) (p m : ℕ) → p < m → sum (λ q. given (eqb p q) (h q)) m ≡ h p
+at-place h p m l =
+    sum-ext (λ q. given (eqb p q) (h q)) (λ q. given (eqb p q) (h p)) m
+    (λ q _. by-eq p q (λ e. rw e) (λ e. rw (ne-eqb p q e)))
+    ∙ sum-delta (h p) p m l
+
+-- the row at place p is the one before which p rows of the set stand
+pub packed-row : {asks : List ℕ} {P : ℕ → Bool} {before level : List ℕ} {m : ℕ} → Packed asks P before level m →
+    (p : ℕ) → p < m → (g : ℕ → ℕ → ℕ) →
+    g (run level p) (inverse level p)
+    ≡ sum (λ j. given (P j) (given (eqb p (count P j)) (g (run asks j) (inverse asks j)))) (many asks)
+packed-row {level = level} {m = m} x p h g =
+    sym (at-place (λ q. g (run level q) (inverse level q)) p m h) ∙ x .same (λ q c i. given (eqb p q) (g c i))

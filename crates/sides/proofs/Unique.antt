@@ -5,13 +5,9 @@ use mathlib.Core.Path.{_≡_, refl, sym, ap, _∙_}
 use mathlib.Core.Bool.{Bool}
 use mathlib.Core.List.{List}
 use native.Mathlib.Omega.{arith}
-use lib.Dec.{eqb}
 use lib.ListN.{length, getD}
 use lib.Seq.{getD-take}
-use borrow.Author.Tests.{ne-eqb}
-use Rattle.counting.specs.Sum.{given, sum, count}
-use Rattle.counting.proofs.Cases.{by-le, by-eq}
-use Rattle.counting.proofs.Sum.{sum-ext, sum-delta}
+use Rattle.counting.proofs.Cases.{by-le}
 use Rattle.counting.proofs.Least.{least-unique}
 use Rattle.tables.specs.Table.{Table}
 use Rattle.sides.specs.inside.Asks.{ask-width, inverse-of, many, run, inverse, AsksFront}
@@ -20,7 +16,7 @@ use Rattle.sides.specs.inside.Found.{Fixed, BusyOf}
 use Rattle.sides.specs.declared.periods.Busy.{Busy}
 use Rattle.sides.specs.declared.periods.Busy.the-variants.{At, Beyond}
 use Rattle.sides.proofs.Pairs.{pairs-same}
-use Rattle.sides.proofs.Pack.{over-one}
+use Rattle.sides.proofs.Pack.{over-one, packed-row}
 
 module _ {tb : Table} {asks : List ℕ} (x : AsksFront tb asks) where
   run-is : (i : ℕ) → i < tb .n → run asks i ≡ tb .C i
@@ -35,38 +31,25 @@ pub asks-unique : (tb : Table) (a b : List ℕ) → AsksFront tb a → AsksFront
 asks-unique tb a b x y =
     pairs-same a b (x .whole ∙ sym (y .whole))
     (λ i. by-le (tb .n) i
-    (λ h. x .past (2 * i) (omega arith) ∙ sym (y .past (2 * i) (omega arith)))
+    (λ h. x .past (ask-width * i) (omega arith) ∙ sym (y .past (ask-width * i) (omega arith)))
     (λ h. run-is x i h ∙ sym (run-is y i h)))
     (λ i. by-le (tb .n) i
-    (λ h. x .past (2 * i + 1) (omega arith) ∙ sym (y .past (2 * i + 1) (omega arith)))
+    (λ h. x .past (ask-width * i + 1) (omega arith) ∙ sym (y .past (ask-width * i + 1) (omega arith)))
     (λ h. inverse-is x i h ∙ sym (inverse-is y i h)))
 
--- what stands at place p of a sum by places
-at-place : (h : ℕ → ℕ) (p m : ℕ) → p < m → sum (λ q. given (eqb p q) (h q)) m ≡ h p
-at-place h p m l =
-    sum-ext (λ q. given (eqb p q) (h q)) (λ q. given (eqb p q) (h p)) m
-    (λ q _. by-eq p q (λ e. rw e) (λ e. rw (ne-eqb p q e)))
-    ∙ sum-delta (h p) p m l
-
 module _ (asks : List ℕ) (P : ℕ → Bool) (before : List ℕ) where
-  packed-row : (l : List ℕ) (m p : ℕ) → Packed asks P before l m → p < m → (g : ℕ → ℕ → ℕ) →
-      g (run l p) (inverse l p)
-      ≡ sum (λ j. given (P j) (given (eqb p (count P j)) (g (run asks j) (inverse asks j)))) (many asks)
-  packed-row l m p x h g =
-      sym (at-place (λ q. g (run l q) (inverse l q)) p m h) ∙ x .same (λ q c i. given (eqb p q) (g c i))
-
   pub packed-unique : (l k : List ℕ) (m r : ℕ) → length l ≡ length k → Packed asks P before l m →
       Packed asks P before k r → (m ≡ r) × (l ≡ k)
   packed-unique l k m r long x y =
       let size : m ≡ r = omega (arith, x .same (λ _ _ _. 1), y .same (λ _ _ _. 1), over-one l m, over-one k r) in
       let row : (g : ℕ → ℕ → ℕ) (p : ℕ) → p < m → g (run l p) (inverse l p) ≡ g (run k p) (inverse k p) =
-      λ g p h. packed-row l m p x h g ∙ sym (packed-row k r p y (omega arith) g) in
+      λ g p h. packed-row x p h g ∙ sym (packed-row y p (omega arith) g) in
       let behind : (j : ℕ) → ask-width * m ≤ j → getD l j 0 ≡ getD k j 0 =
       λ j h. x .rest j h ∙ sym (y .rest j (omega arith)) in (
         size,
         pairs-same l k long
-            (λ p. by-le m p (λ h. behind (2 * p) (omega arith)) (row (λ c _. c) p))
-            (λ p. by-le m p (λ h. behind (2 * p + 1) (omega arith)) (row (λ _ i. i) p)),
+            (λ p. by-le m p (λ h. behind (ask-width * p) (omega arith)) (row (λ c _. c) p))
+            (λ p. by-le m p (λ h. behind (ask-width * p + 1) (omega arith)) (row (λ _ i. i) p)),
       )
 
 pub busy-of-unique : (level : List ℕ) (a b : Busy) → BusyOf level a → BusyOf level b → a ≡ b

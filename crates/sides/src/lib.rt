@@ -10,8 +10,8 @@ ghost use Rattle.marks.specs.inside.Marks.{marked};
 ghost use Rattle.tables.specs.Table.{Sound, most, most-rows};
 ghost use Rattle.tables.specs.inside.Rows.{tableIn};
 ghost use Rattle.test.specs.Test.{horizon};
-ghost use Rattle.sides.specs.inside.Asks.{ask-width, many, AsksFront};
-ghost use Rattle.sides.specs.inside.Level.{asked, busy-of, active-of, start-of, Small, Packed};
+ghost use Rattle.sides.specs.inside.Asks.{ask-width, many, run, inverse, AsksFront};
+ghost use Rattle.sides.specs.inside.Level.{put, asked, busy-of, active-of, start-of, Small, Packed};
 use tables::Row;
 
 // How many numbers a row asks with: its run, and the inverse of its spacing.
@@ -58,6 +58,35 @@ pub fn level_of(asks: &[u64], set: u32, level: &mut [u64]) -> usize
         m += 1;
     }
     m
+}
+
+// A level of m rows without the one at p, whose place the last one takes: the first m - 1 are the others.
+pub fn leave_out(level: &mut [u64], m: usize, p: usize)
+    requires { ⌜ (p < m) × (m ≤ most-rows) × (length (now level) ≡ ask-width * most-rows) ⌝ }
+    ensures { λ _. ⌜ now (level .exit) ≡ put (now (level .entry)) p (run (now (level .entry)) (m - 1))
+        (inverse (now (level .entry)) (m - 1)) ⌝ }
+{
+    let from = ASK_WIDTH * (m - 1);
+    let to = ASK_WIDTH * p;
+    let run = level[from];
+    let inverse = level[from + 1];
+    level[to] = run;
+    level[to + 1] = inverse;
+}
+
+// The level with what row i asks with at p again.
+pub fn put_back(level: &mut [u64], p: usize, asks: &[u64], i: usize)
+    requires { ⌜ (p < most-rows) × (length (now level) ≡ ask-width * most-rows) × (i < many (now asks))
+        × (many (now asks) ≤ most-rows) ⌝ }
+    ensures { λ _. ⌜ now (level .exit) ≡ put (now (level .entry)) p (run (now (asks .entry)) i)
+        (inverse (now (asks .entry)) i) ⌝ }
+{
+    let from = ASK_WIDTH * i;
+    let to = ASK_WIDTH * p;
+    let run = asks[from];
+    let inverse = asks[from + 1];
+    level[to] = run;
+    level[to + 1] = inverse;
 }
 
 // What the rows of the level ask for before t.

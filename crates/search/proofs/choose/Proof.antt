@@ -1,31 +1,33 @@
 -- `choose` meets its contract: rows, lengths and jobs are walked, and at each way out what is known is one law of Seen,
 -- Lengths or Trial.
-use Prim.Native.Nat.{ℕ, _≤_, _<_, _+_, _*_, _-_}
+use Prim.Native.Nat.{ℕ, suc, _≤_, _<_, _+_, _*_, _-_}
 use mathlib.Core.Path.{_≡_, refl, sym, ap, _∙_, subst}
 use mathlib.Core.Bool.{Bool, true, false}
 use mathlib.Core.List.{List}
 use mathlib.Core.Logic.{_⊎_, inl, inr, ⊎-elim}
 use native.Mathlib.Omega.{arith}
-use native.Mathlib.Nat.{pos-of-ne-zero, mul-le-mul}
+use native.Mathlib.Nat.{pos-of-ne-zero, mul-le-mul, suc-mul}
 use lib.Count.{trailingZeros}
 use lib.ListN.{length, take}
 use lib.Seq.{length-take-le}
 use borrow.Author.Needs.{needs}
-use Rattle.counting.specs.Sum.{without}
+use Rattle.counting.specs.Sum.{without, count}
 use Rattle.counting.proofs.Cases.{not-both}
-use Rattle.counting.proofs.Sum.{without-elim}
+use Rattle.counting.proofs.Up.{up-le, lt-up}
 use Rattle.marks.specs.inside.Marks.{marked}
 use Rattle.marks.proofs.Marks.{next-by-zeros}
-use Rattle.tables.specs.Table.{Table, Within}
+use Rattle.tables.specs.Table.{Table, Within, most, most-rows}
 use Rattle.tables.specs.Plan.{cap}
 use Rattle.tables.specs.inside.Rows.{tableIn}
 use Rattle.tables.proofs.Plan.{cap-is, cap-run}
-use Rattle.test.specs.Test.{horizon, upto, Active, active-side, start-side, Response}
+use Rattle.test.specs.Test.{horizon, upto, jobs, Active, active-side, start-side, Response}
 use Rattle.test.proofs.Response.{response-unique}
-use Rattle.sides.specs.inside.Asks.{many}
-use Rattle.sides.specs.inside.Level.{start-of}
+use Rattle.sides.specs.inside.Asks.{ask-width, many, run, inverse}
+use Rattle.sides.specs.inside.Level.{put, start-of}
+use Rattle.sides.proofs.Pairs.{put-length}
 use Rattle.sides.proofs.Level.{Asking, start-of-is}
-use Rattle.sides.proofs.Asking.{asking-packed}
+use Rattle.sides.proofs.Asking.{Holding, asking-held, asking-packed}
+use Rattle.sides.proofs.Left.{put-same, out-same, place-inside, left-holding, back-same}
 use Rattle.responses.proofs.Jobs.{Working, jobs-few, length-first}
 use Rattle.choice.specs.Choice.{Fits}
 use Rattle.search.proofs.Period.{positive, blocking-within, period-within, period-first, period-exists}
@@ -39,36 +41,37 @@ use Rattle.search.proofs.choose.Statement.{statement}
 use Rattle.search.proofs.choose.Tie as tie
 
 abbrev Inv-loop : tie.InvT-loop
-Inv-loop asks unplaced tried b rows level all least period row best response rest i others above own c t jobs cap
-    low high time len k largest s₀ released due base s =
+Inv-loop asks unplaced tried b rows level all least period row best response rest i at own c t cap low
+    high time len k largest s₀ released due base s =
     Trial (tableIn rows (many asks)) (without (marked unplaced) i) b i len period k s largest
 
 abbrev μ-loop : tie.MeasureT-loop
-μ-loop asks unplaced tried b rows level all least period row best response rest i others above own c t jobs cap low
+μ-loop asks unplaced tried b rows level all least period row best response rest i at own c t cap low
     high time len k largest s₀ released due base s = horizon + 1 - s
 
 abbrev Inv-jobs : tie.InvT-jobs
-Inv-jobs asks unplaced tried b rows level all least period row best response rest i others above own c t jobs cap
-    low high time len k₀ largest₀ s₀ k largest s =
+Inv-jobs asks unplaced tried b rows level all least period row best response rest i at own c t cap low
+    high time len k₀ largest₀ s₀ k largest s =
     Trial (tableIn rows (many asks)) (without (marked unplaced) i) b i len period k s largest
 
 abbrev μ-jobs : tie.MeasureT-jobs
-μ-jobs asks unplaced tried b rows level all least period row best response rest i others above own c t jobs cap low
-    high time len k₀ largest₀ s₀ k largest s = jobs + 1 - k
+μ-jobs asks unplaced tried b rows level all least period row best response rest i at own c t cap low
+    high time len k₀ largest₀ s₀ k largest s =
+    jobs (tableIn rows (many asks)) (without (marked unplaced) i) b i period + 1 - k
 
 abbrev Inv-lengths : tie.InvT-lengths
-Inv-lengths asks unplaced tried b rows level all least period row best response rest i others above own c t jobs cap
-    low₀ high₀ time₀ len₀ low high time len =
+Inv-lengths asks unplaced tried b rows level all least period row best response rest i at own c t cap low₀
+    high₀ time₀ len₀ low high time len =
     Narrowed (tableIn rows (many asks)) (without (marked unplaced) i) b i cap low high time
     × (low < high → (low ≤ len) × (len < high))
 
 abbrev μ-lengths : tie.MeasureT-lengths
-μ-lengths asks unplaced tried b rows level all least period row best response rest i others above own c t jobs cap
-    low₀ high₀ time₀ len₀ low high time len = high - low
+μ-lengths asks unplaced tried b rows level all least period row best response rest i at own c t cap low₀
+    high₀ time₀ len₀ low high time len = high - low
 
 abbrev Inv-rows : tie.InvT-rows
 Inv-rows asks unplaced tried b rows level₀ all least period row₀ best₀ response₀ rest₀ level row best response rest =
-    Seen (tableIn rows (many asks)) (marked unplaced) b (marked tried) row best response rest × (length level ≡ 64)
+    Seen (tableIn rows (many asks)) (marked unplaced) b (marked tried) row best response rest × (level ≡ level₀)
 
 abbrev μ-rows : tie.MeasureT-rows
 μ-rows asks unplaced tried b rows level₀ all least period row₀ best₀ response₀ rest₀ level row best response rest =
@@ -102,19 +105,21 @@ module _ (w : Under tie.After-level-of) where
   abbrev all : List ℕ
   all = w .level-of .last .1 .1 .0
 
-  all-fits : 2 * w .level-of .result ≤ length all
-  all-fits = omega (arith, w .level-of .ensures .few, w .level-of .kept .1 .1 .0)
+  all-whole : length all ≡ ask-width * most-rows
+  all-whole = w .level-of .kept .1 .1 .0
 
-  all-asking : Asking (tb packed) (U packed) (take (2 * w .level-of .result) all)
-  all-asking =
-      asking-packed (packed .pre .sound) (packed .pre .asked) (w .level-of .kept .1 .1 .0) (w .level-of .ensures)
+  all-fits : ask-width * w .level-of .result ≤ length all
+  all-fits = omega (arith, w .level-of .ensures .few, all-whole)
+
+  all-asking : Asking (tb packed) (U packed) (take (ask-width * w .level-of .result) all)
+  all-asking = asking-packed (packed .pre .sound) (packed .pre .asked) all-whole (w .level-of .ensures)
 
 -- ---- where the level began
 abbrev begun : Under tie.After-active-period → Under tie.Start
 begun a = packed (a .before .before .before .before .before)
 
 -- ---- the row in hand
-module _ (h : Under tie.After-level-of2) where
+module _ (h : Under tie.After-leave-out) where
   abbrev N : Under tie.After-next
   N = h .before .before .before .before
 
@@ -163,20 +168,28 @@ module _ (h : Under tie.After-level-of2) where
   least-is : least ≡ active-side (tb S) P (b S) i 1
   least-is = A .before .before .active-side .ensures ∙ period-first (S .pre) i unplaced (all-asking W)
 
-  -- the rows above it, packed
+  -- the level that the others are left in: of all rows but the one in hand, whose place the last one takes
+  abbrev last : ℕ
+  last = W .level-of .result - 1
+
   abbrev level : List ℕ
-  level = h .level-of2 .last .1 .1 .0
+  level = h .leave-out .last .0
 
-  whole : length level ≡ 64
-  whole = h .level-of2 .kept .1 .1 .0 ∙ rows .rows .inv .1
+  left-is : level ≡ put (all W) (count (U S) i) (run (all W) last) (inverse (all W) last)
+  left-is =
+      h .leave-out .ensures ∙ out-same last (rows .rows .inv .1) (h .before .before .place .ensures)
 
-  fits : 2 * h .level-of2 .result ≤ length level
-  fits = omega (arith, h .level-of2 .ensures .few, whole)
+  whole : length level ≡ ask-width * most-rows
+  whole = ap length left-is ∙ put-length (all W) (count (U S) i) (run (all W) last) (inverse (all W) last) ∙ all-whole W
 
-  asking : Asking (tb S) P (take (2 * h .level-of2 .result) level)
+  fits : ask-width * last ≤ length level
+  fits = omega (arith, W .level-of .ensures .few, whole)
+
+  asking : Asking (tb S) P (take (ask-width * last) level)
   asking =
-      subst (λ Q. Asking (tb S) Q (take (2 * h .level-of2 .result) level)) (h .before .before .less2 .ensures .marks)
-      (asking-packed (S .pre .sound) (S .pre .asked) whole (h .level-of2 .ensures))
+      asking-held (S .pre .sound) (S .pre .asked) whole
+      (subst (λ l. Holding (S .args .asks .now) P l last) (sym left-is)
+      (left-holding (W .level-of .ensures) (all-whole W) i inside unplaced))
 
   runs : Within (tb S .C i)
   runs = S .pre .sound .row i inside .C
@@ -186,8 +199,8 @@ module _ (h : Under tie.After-level-of2) where
 
 -- ---- its longest length worth a try
 module _ (c : Under tie.After-cap-of) where
-  abbrev H : Under tie.After-level-of2
-  H = c .before .before .before .before .before .before
+  abbrev H : Under tie.After-leave-out
+  H = c .before .before .before .before .before
 
   abbrev top : ℕ
   top = c .cap-of .result
@@ -203,7 +216,7 @@ module _ (c : Under tie.After-cap-of) where
 
 -- ---- the length that is tried
 module _ (c : Under tie.In-lengths) where
-  abbrev R : Under tie.After-level-of2
+  abbrev R : Under tie.After-leave-out
   R = H (c .before .before)
 
   abbrev q : ℕ
@@ -252,8 +265,17 @@ module _ (c : Under tie.At-jobs) where
   job-few : c .jobs .k ≤ horizon
   job-few = omega (arith, c .jobs .inv .high, jobs-few (working (c .before)))
 
-  released : (c .jobs .k - 1) * tb (S (R (c .before))) .T (i (R (c .before))) ≤ 1000000 * 1000000
-  released = mul-le-mul {n₂ = 1000000} {m₂ = 1000000} (let k = job-few in omega arith) (spaced (R (c .before)) .high)
+  released : (c .jobs .k - 1) * tb (S (R (c .before))) .T (i (R (c .before))) ≤ horizon * most
+  released = mul-le-mul {n₂ = horizon} {m₂ = most} (let k = job-few in omega arith) (spaced (R (c .before)) .high)
+
+  -- the next release
+  abbrev t : ℕ
+  t = tb (S (R (c .before))) .T (i (R (c .before)))
+
+  next-release : (c .jobs .k - 1) * t + t ≡ c .jobs .k * t
+  next-release =
+      let z : suc (c .jobs .k - 1) ≡ c .jobs .k = omega (arith, c .jobs .inv .low) in
+      sym (suc-mul (c .jobs .k - 1) t) ∙ ap (λ x. x * t) z
 
 -- ---- one value of a start's iteration
 module _ (c : Under tie.At-loop) where
@@ -270,7 +292,7 @@ module _ (c : Under tie.At-loop) where
   within = omega (arith, trial-within (working I) (c .loop .inv), short (R I))
 
   -- what the level gives for it
-  turned : start-of (take (2 * R I .level-of2 .result) (level (R I))) (c .before .base-of .result) (c .loop .s) ≡ side
+  turned : start-of (take (ask-width * last (R I)) (level (R I))) (c .before .base-of .result) (c .loop .s) ≡ side
   turned =
       let h = R I in
       start-of-is (asking h) (b (S h)) (i h) (q I) (J .jobs .k) (c .before .base-of .ensures) (c .loop .s)
@@ -284,6 +306,19 @@ module _ (c : Under tie.Then2) where
   repeats : E .loop .s ≡ side E
   repeats = sym (c .if2 .taken) ∙ c .before .start-side .ensures ∙ turned E
 
+-- ---- the jobs that count: those released in the active period
+module _ (c : Under tie.At-jobs) where
+  abbrev many-jobs : ℕ
+  many-jobs = let h = R (c .before) in jobs (tb (S h)) (P h) (b (S h)) (i h) (L h)
+
+  over : c .jobs .k ≤ many-jobs → L (R (c .before)) ≤ (c .jobs .k - 1) * t c + t c → c .jobs .k ≡ many-jobs
+  over high h =
+      let e = next-release c in
+      omega (arith, up-le (L (R (c .before))) (c .jobs .k) (spaced (R (c .before)) .low) (omega arith))
+
+  more : (c .jobs .k - 1) * t c + t c < L (R (c .before)) → c .jobs .k < many-jobs
+  more h = let e = next-release c in lt-up (L (R (c .before))) (c .jobs .k) (spaced (R (c .before)) .low) (omega arith)
+
 -- ---- where the job loop is left
 tested : (c : Under tie.Joined1) → let x = I (c .before) in
     ((c .if1 .passes ≡ true) × Passes x (c .if1 .largest)) ⊎ ((c .if1 .passes ≡ false) × Fails x)
@@ -296,7 +331,7 @@ tested c =
       m .7,
       subst (Passes x) (sym (m .6 ∙ m .4 .ensures))
           (trial-passes (working x) (a .loop .inv) (sym (m .3 .taken) ∙ m .2 .ensures ∙ turned a) (m .0 .left)
-          (m .5 .taken ∙ x .before .before .before .round-up .ensures)),
+          (over (J a) (a .loop .inv .high) (m .5 .taken))),
     ))
     (c .if1 .came)
 
@@ -316,7 +351,7 @@ module _ (c : Under tie.After-lengths) where
   abbrev K : Under tie.After-cap-of
   K = c .before .before
 
-  abbrev G : Under tie.After-level-of2
+  abbrev G : Under tie.After-leave-out
   G = H K
 
   abbrev Leads : ℕ → ℕ → ℕ → Type 0
@@ -349,23 +384,33 @@ active-period-requires c κs =
     )
 
 rows-holds : Under tie.Need-rows-holds
-rows-holds c = (seen-first _ _ _ _, c .before .before .before .before .before .level-of .kept .1 .1 .0)
+rows-holds c = (seen-first _ _ _ _, refl)
 
-less-requires-2 : Under tie.Need-less-requires-2
-less-requires-2 c κs =
-    let n = c .before .next .ensures in
-    let r = c .before .before .before in
-    (n .inside, begun (r .before) .pre .among _ (r .rows .inv .0 .among _ (n .first .holds)))
+-- ---- the place of the row in hand
+module _ (c : Under tie.After-place) where
+  abbrev at-hand : Under tie.At-rows
+  at-hand = c .before .before .before .before
 
-level-of-requires-2 : Under tie.Need-level-of-requires-2
-level-of-requires-2 c κs =
-    let r = c .before .before .before .before .before in
-    let p = begun (r .before) .pre in (
-      p .sound .few,
-      λ j m. without-elim (marked _) _ j (ap (λ Q. Q j) (sym (c .before .less2 .ensures .marks)) ∙ m)
-          (λ _ u. p .inside j u),
-      r .rows .inv .1,
-    )
+  abbrev W₀ : Under tie.After-level-of
+  W₀ = at-hand .before .before .before .before .before .before
+
+  place-fits : c .place .result < W₀ .level-of .result
+  place-fits =
+      let s = packed W₀ in
+      let u = s .pre .among _ (at-hand .rows .inv .0 .among _ (c .before .before .next .ensures .first .holds)) in
+      omega (
+        arith,
+        c .place .ensures,
+        place-inside (W₀ .level-of .ensures) (all-whole W₀) _ (s .pre .inside _ u) u,
+      )
+
+  level-whole : length (at-hand .rows .level) ≡ ask-width * most-rows
+  level-whole = ap length (at-hand .rows .inv .1) ∙ all-whole W₀
+
+leave-out-requires : Under tie.Need-leave-out-requires
+leave-out-requires c κs =
+    let p = c .before in
+    (place-fits p, W₀ p .level-of .ensures .few, level-whole p)
 
 lengths-holds : Under tie.Need-lengths-holds
 lengths-holds c = (narrowed-first _ _ _ _ _, search needs)
@@ -407,7 +452,7 @@ loop-again c =
 jobs-less : Under tie.Need-jobs-less
 jobs-less c =
     let a = E (c .before .before) in
-    omega (arith, a .loop .inv .high, I a .before .before .before .round-up .ensures)
+    omega (arith, a .loop .inv .high)
 
 jobs-again : Under tie.Need-jobs-again
 jobs-again c =
@@ -415,7 +460,7 @@ jobs-again c =
     let t = E d .loop .inv in
     rw (c .before .larger .ensures)
     (trial-next (working (I (E d))) t (repeats d) (d .before .before .before .if1 .left)
-    (omega (arith, t .high, I (E d) .before .before .before .round-up .ensures, c .if3 .left)))
+    (more (J (E d)) (c .if3 .left)))
 
 next-length-requires : Under tie.Need-next-length-requires
 next-length-requires c κs =
@@ -429,28 +474,49 @@ lengths-less c = outcome (c .before) .1
 lengths-again : Under tie.Need-lengths-again
 lengths-again c = (outcome (c .before) .0, c .next-length .ensures)
 
+-- ---- the row in hand put back
+module _ (c : Under tie.After-put-back) where
+  abbrev D : Under tie.After-lengths
+  D = c .before .before
+
+  back : c .put-back .last .0 ≡ all (W (G D))
+  back =
+      let h = G D in
+      c .put-back .ensures
+      ∙ put-same _ _ (left-is h) (h .before .before .place .ensures)
+      ∙ back-same (W h .level-of .ensures) (all-whole (W h)) (i h) (inside h) (unplaced h)
+
+put-back-requires : Under tie.Need-put-back-requires
+put-back-requires c κs =
+    let h = G (c .before) in (
+      omega (arith, place-fits (h .before .before), W h .level-of .ensures .few),
+      whole h,
+      inside h,
+      S h .pre .sound .few,
+    )
+
 rows-again : Under tie.Need-rows-again
 rows-again c =
-    let d = c .before .before in
-    (seen-one (c .if6 .taken) (better d (c .before .if5 .taken)), whole (G d))
+    let p = c .before .before .before in
+    (seen-one (c .if6 .taken) (better (D p) (c .before .if5 .taken)), back p)
 
 rows-again-2 : Under tie.Need-rows-again-2
-rows-again-2 c = let d = c .before .before in (better d (c .before .if5 .taken), whole (G d))
+rows-again-2 c = let p = c .before .before .before in (better (D p) (c .before .if5 .taken), back p)
 
 rows-again-3 : Under tie.Need-rows-again-3
-rows-again-3 c = (unchanged (c .before) (c .if5 .left), whole (G (c .before)))
+rows-again-3 c = let p = c .before .before in (unchanged (D p) (c .if5 .left), back p)
 
 returns : Under tie.Need-returns
 returns c = seen-none (c .before .before .rows .inv .0) (c .before .rows-test .left) (c .if7 .taken)
 
-cast-t64 : Under tie.Need-cast-t64
-cast-t64 c =
+cast-t67 : Under tie.Need-cast-t67
+cast-t67 c =
     let r = c .before .before in
     let f = r .rows .inv .0 .found (pos-of-ne-zero (c .if7 .left)) in
     omega (arith, cap-run _ _ (f .2 .holds .0), begun (r .before) .pre .sound .row (r .rows .row) (f .0) .C .high)
 
-cast-t65 : Under tie.Need-cast-t65
-cast-t65 c =
+cast-t68 : Under tie.Need-cast-t68
+cast-t68 c =
     let r = c .before .before .rows in
     let s = begun (c .before .before .before) in
     let some = pos-of-ne-zero (c .if7 .left) in
@@ -474,23 +540,25 @@ choose-spec = tie.close (tie.spec Inv-loop μ-loop Inv-jobs μ-jobs Inv-lengths 
     (λ c. all-fits (c .before .before .before))
     (λ c. sym (length-take-le _ _ (all-fits (c .before .before .before .before)))) active-period-requires rows-holds
     (λ c κs. pos-of-ne-zero (c .rows-test .taken))
-    (λ c κs. (c .next .ensures .inside, c .next .ensures .first .holds)) less-requires-2
-    (λ c. sym (c .before .before .before .before .before .rows .inv .1)) level-of-requires-2 (λ c. search needs)
+    (λ c κs. (c .next .ensures .inside, c .next .ensures .first .holds))
+    (λ c κs. c .before .next .ensures .inside) (λ c. search needs) (λ c. sym (level-whole (c .before)))
+    leave-out-requires (λ c. search needs)
     (λ c. omega (arith, N (c .before) .next .ensures .inside))
     (λ c. N (c .before) .next .ensures .inside) (λ c. search needs) (λ c. search needs)
-    (λ c κs. let h = c .before .before .before .before in (spaced h .low, omega (arith, short h, spaced h .high)))
     (λ c κs. search needs) (λ c. omega (arith, top-run c, runs (H c) .high)) lengths-holds
     (λ c. omega (arith, length-first (working c), least-is (R c))) jobs-holds (λ c. c .jobs .inv .low)
     (λ c. omega (arith, released c)) (λ c. search needs) add-due base-of-requires loop-holds
-    (λ c. omega (arith, within c)) (λ c. omega (arith, R (I (c .before)) .level-of2 .ensures .few))
+    (λ c. omega (arith, within c)) (λ c. omega (arith, place-fits (R (I (c .before)) .before .before)))
+    (λ c. omega (arith, W (R (I (c .before))) .level-of .ensures .few))
     (λ c. fits (R (I (c .before)))) (λ c. sym (length-take-le _ _ (fits (R (I (c .before .before))))))
     start-side-requires loop-less loop-again (λ c. omega (arith, within (E c)))
     (λ c. omega (arith, trial-after (working (I (E c))) (E c .loop .inv) (repeats c))) (λ c κs. search needs)
+    (λ c. let a = E (c .before) in omega (arith, released (J a), spaced (R (I a)) .high))
     (λ c. omega (arith, job-few (J (E (c .before .before)))))
     (λ c. let a = E (c .before .before) in omega (arith, within a, runs (R (I a)) .high)) jobs-less jobs-again
     (λ c. let x = I (c .before .before) in omega (arith, working x .most, runs (R x) .high)) next-length-requires
-    lengths-less lengths-again
-    (λ c. pos-of-ne-zero (N (G (c .before .before)) .before .rows-test .taken)) rows-again
-    (λ c. left (G (c .before .before)) .less .ensures .smaller) rows-again-2
-    (λ c. left (G (c .before)) .less .ensures .smaller) rows-again-3 returns cast-t64 cast-t65
+    lengths-less lengths-again (λ c. sym (whole (G (c .before)))) (λ c. search needs) put-back-requires
+    (λ c. pos-of-ne-zero (N (G (D (c .before .before .before))) .before .rows-test .taken)) rows-again
+    (λ c. left (G (D (c .before .before .before))) .less .ensures .smaller) rows-again-2
+    (λ c. left (G (D (c .before .before))) .less .ensures .smaller) rows-again-3 returns cast-t67 cast-t68
     returns-2)

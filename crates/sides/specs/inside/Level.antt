@@ -3,10 +3,14 @@ use Prim.Native.Nat.{ℕ, _+_, _-_, _*_, _/_, _≤_, _<_}
 use mathlib.Core.Path.{_≡_}
 use mathlib.Core.Bool.{Bool}
 use mathlib.Core.List.{List}
-use lib.ListN.{getD}
+use lib.ListN.{getD, set}
 use Rattle.counting.specs.Sum.{given, sum, count}
 use Rattle.tables.specs.Table.{most-rows, most}
 use Rattle.sides.specs.inside.Asks.{ask-width, scale, inverse-of, many, run, inverse}
+
+-- a list in which the row p has become a run and an inverse
+abbrev pub put : List ℕ → ℕ → ℕ → ℕ → List ℕ
+put l p c i = set (set l (ask-width * p) c) (ask-width * p + 1) i
 
 -- what the rows of a level ask for by their releases at s or before
 unfoldable pub asked : List ℕ → ℕ → ℕ
