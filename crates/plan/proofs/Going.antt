@@ -20,7 +20,8 @@ use Rattle.tables.proofs.Plan.{longer-is}
 use Rattle.test.specs.Test.{before, load, busy-side, Response, longest, blocking}
 use Rattle.test.proofs.Load.{Positive}
 use Rattle.test.proofs.Plans.{room, blocking-is, longest-cases}
-use Rattle.sides.proofs.Pairs.{zeros, put, put-length, put-other, put-first, put-second}
+use Rattle.sides.specs.inside.Level.{put}
+use Rattle.sides.proofs.Pairs.{zeros, put-length, put-other, put-first, put-second}
 use Rattle.choice.specs.Choice.{unplaced, Takes, TakesRank, NoneFits, Filled}
 use Rattle.choice.proofs.Level.{Alike, takes-alike, none-alike}
 use Rattle.choice.proofs.Filled.{agree-alike}

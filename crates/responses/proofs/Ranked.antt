@@ -46,7 +46,7 @@ module _ {tb : Table} {asks : List ℕ} {set b i q : ℕ} (r : Ranked tb asks se
 
   -- the set with the row itself
   module _ (all : ℕ) (m : More set i all) where
-    own : marked all i ≡ true
+    pub own : marked all i ≡ true
     own = m i ∙ or-right (marked set i) (eqb i i) (eq-eqb i i refl)
 
     pub inside : (j : ℕ) → marked all j ≡ true → j < many asks
@@ -55,7 +55,7 @@ module _ {tb : Table} {asks : List ℕ} {set b i q : ℕ} (r : Ranked tb asks se
         (λ f. omega (arith, r .inside j f, rows))
         (λ f. omega (arith, r .row, rows, eqb-true j i f))
 
-    others : marked set ≡ without (marked all) i
+    pub others : marked set ≡ without (marked all) i
     others = fun-ext (λ j. is-without (marked all) i j (marked set j)
         (λ e. ap (marked set) e ∙ r .apart)
         (λ e. sym (m j ∙ rw (ne-eqb j i e) (or-false (marked set j)))))

@@ -46,13 +46,14 @@ pub fn response(rows: [Row; 32], asks: &[u64], above: u32, b: u64, i: usize, q: 
     let least = sides::active_side(&level[..ASK_WIDTH * all], b, 1);
     let period = sides::periods::active_period(&level[..ASK_WIDTH * all], b, least);
     let jobs = counting::round_up(period, spacing);
-    let higher = sides::level_of(asks, above, &mut level);
+    let at = marks::place(with_own, i as u32) as usize;
+    sides::leave_out(&mut level, all, at);
     let mut largest: u64 = 0;
     let mut low = least - q;
     let mut k: u64 = 0;
     while k < jobs {
         let base = sides::base_of(rows[i], b, q, k + 1);
-        let s = start(&level[..ASK_WIDTH * higher], base, low);
+        let s = start(&level[..ASK_WIDTH * (all - 1)], base, low);
         let took = s + q - k * spacing;
         if largest < took {
             largest = took;

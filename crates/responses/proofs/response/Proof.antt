@@ -1,7 +1,7 @@
 -- `response` meets its contract: the largest over the jobs passed, each start no lower than the one before plus C.
 use Prim.Native.Nat.{suc, ℕ, max, _≤_, _<_, _+_, _-_, _*_}
 use mathlib.Core.Path.{_≡_, refl, sym, ap, _∙_, subst}
-use mathlib.Core.Bool.{Bool}
+use mathlib.Core.Bool.{Bool, true}
 use mathlib.Core.Logic.{⊎-elim}
 use mathlib.Core.List.{List}
 use native.Mathlib.Numerals.{add-one}
@@ -9,29 +9,33 @@ use native.Mathlib.Omega.{arith}
 use lib.ListN.{take, length}
 use lib.Seq.{length-take-le}
 use borrow.Author.Needs.{needs}
-use Rattle.tables.specs.Table.{Table, Within}
+use Rattle.tables.specs.Table.{Table, Within, most-rows}
 use Rattle.tables.specs.inside.Rows.{tableIn}
-use Rattle.test.specs.Test.{jobs, Start, active-side}
+use Rattle.test.specs.Test.{horizon, jobs, Start, active-side}
+use Rattle.counting.specs.Sum.{count, without}
 use Rattle.marks.specs.inside.Marks.{marked}
-use Rattle.sides.specs.inside.Asks.{many}
+use Rattle.sides.specs.inside.Asks.{ask-width, many, inverse, run as run-of}
+use Rattle.sides.specs.inside.Level.{put}
+use Rattle.sides.proofs.Pairs.{put-length}
 use Rattle.sides.proofs.Level.{Asking}
-use Rattle.sides.proofs.Asking.{asking-packed}
+use Rattle.sides.proofs.Asking.{Holding, asking-held, asking-packed}
+use Rattle.sides.proofs.Left.{out-same, place-inside, left-holding}
 use Rattle.sides.proofs.Lower.{start-within, start-found}
 use Rattle.responses.proofs.Jobs.{Job, jobs-few, length-first, first-ends}
 use Rattle.responses.proofs.Jobs.{job-exists, job-known, next-low}
 use Rattle.responses.proofs.Largest.{Passed, passed-none, passed-more, passed-all}
-use Rattle.responses.proofs.Ranked.{rows, blocking-small, working, inside, first, within, found}
+use Rattle.responses.proofs.Ranked.{rows, blocking-small, working, own, inside, others, first, within, found}
 use Rattle.responses.proofs.response.Statement.{statement}
 use Rattle.responses.proofs.response.Tie as tie
 
 abbrev Inv-loop : tie.InvT-loop
-Inv-loop asks above b i q rows run spacing with level all least period jobs higher largest₀ low₀ k₀ largest low k =
+Inv-loop asks above b i q rows run spacing with level all least period jobs at largest₀ low₀ k₀ largest low k =
     let tb = tableIn rows (many asks) in
     let P = marked above in
     Passed tb P b i q k largest × (k ≤ jobs) × ((s : ℕ) → Start tb P b i q (suc k) s → low ≤ s)
 
 abbrev μ-loop : tie.MeasureT-loop
-μ-loop asks above b i q rows run spacing with level all least period jobs higher largest₀ low₀ k₀ largest low k =
+μ-loop asks above b i q rows run spacing with level all least period jobs at largest₀ low₀ k₀ largest low k =
     jobs - k
 
 -- row i
@@ -60,11 +64,24 @@ module _ (c : tie.After-level-of Inv-loop μ-loop) where
   abbrev all : List ℕ
   all = c .level-of .last .1 .1 .0
 
-  fits : 2 * c .level-of .result ≤ length all
-  fits = omega (arith, c .level-of .ensures .few, c .level-of .kept .1 .1 .0)
+  all-whole : length all ≡ ask-width * most-rows
+  all-whole = c .level-of .kept .1 .1 .0
 
-  asking : Asking (tb S) (marked more) (take (2 * c .level-of .result) all)
-  asking = asking-packed (S .pre .sound) (S .pre .asked) (c .level-of .kept .1 .1 .0) (c .level-of .ensures)
+  fits : ask-width * c .level-of .result ≤ length all
+  fits = omega (arith, c .level-of .ensures .few, all-whole)
+
+  asking : Asking (tb S) (marked more) (take (ask-width * c .level-of .result) all)
+  asking = asking-packed (S .pre .sound) (S .pre .asked) all-whole (c .level-of .ensures)
+
+  -- the row has its place in it
+  row-inside : S .args .i < many (S .args .asks .now)
+  row-inside = omega (arith, S .pre .row, rows (S .pre))
+
+  row-marked : marked more (S .args .i) ≡ true
+  row-marked = own (S .pre) more (c .before .before .more .ensures)
+
+  place-fits : count (marked more) (S .args .i) < c .level-of .result
+  place-fits = place-inside (c .level-of .ensures) all-whole (S .args .i) row-inside row-marked
 
 -- its active period
 module _ (a : tie.After-active-period Inv-loop μ-loop) where
@@ -80,36 +97,54 @@ module _ (a : tie.After-active-period Inv-loop μ-loop) where
       a .before .before .active-side .ensures
       ∙ first (S W .pre) (more W) (W .before .before .more .ensures) (asking W)
 
--- the level of the rows above
-module _ (c : tie.After-level-of2 Inv-loop μ-loop) where
+-- the level of the rows above: the row left out of it
+module _ (c : tie.After-leave-out Inv-loop μ-loop) where
   abbrev A : tie.After-active-period Inv-loop μ-loop
-  A = c .before .before .before
+  A = c .before .before .before .before
+
+  abbrev O : tie.After-level-of Inv-loop μ-loop
+  O = W A
 
   abbrev Z : tie.Start Inv-loop μ-loop
-  Z = S (W A)
+  Z = S O
+
+  abbrev last : ℕ
+  last = O .level-of .result - 1
 
   abbrev higher : List ℕ
-  higher = c .level-of2 .last .1 .1 .0
+  higher = c .leave-out .last .0
 
-  whole : length higher ≡ 64
-  whole = c .level-of2 .kept .1 .1 .0 ∙ W A .level-of .kept .1 .1 .0
+  left-is : higher ≡ put (all O) (count (marked (more O)) (Z .args .i)) (run-of (all O) last) (inverse (all O) last)
+  left-is = c .leave-out .ensures ∙ out-same {k = all O} last refl (c .before .before .place .ensures)
 
-  above-fits : 2 * c .level-of2 .result ≤ length higher
-  above-fits = omega (arith, c .level-of2 .ensures .few, whole)
+  whole : length higher ≡ ask-width * most-rows
+  whole =
+      ap length left-is
+      ∙ put-length (all O) (count (marked (more O)) (Z .args .i)) (run-of (all O) last) (inverse (all O) last)
+      ∙ all-whole O
 
-  above-asking : Asking (tb Z) (P Z) (take (2 * c .level-of2 .result) higher)
-  above-asking = asking-packed (Z .pre .sound) (Z .pre .asked) whole (c .level-of2 .ensures)
+  above-fits : ask-width * last ≤ length higher
+  above-fits = omega (arith, O .level-of .ensures .few, whole)
+
+  above-asking : Asking (tb Z) (P Z) (take (ask-width * last) higher)
+  above-asking =
+      let i = Z .args .i in
+      let held = left-holding (O .level-of .ensures) (all-whole O) i (row-inside O) (row-marked O) in
+      subst (λ Q. Asking (tb Z) Q (take (ask-width * last) higher))
+      (sym (others (Z .pre) (more O) (O .before .before .more .ensures)))
+      (asking-held (Z .pre .sound) (Z .pre .asked) whole
+      (subst (λ l. Holding (Z .args .asks .now) (without (marked (more O)) i) l last) (sym left-is) held))
 
   abbrev K : ℕ
   K = jobs (tb Z) (P Z) (Z .args .b) (Z .args .i) (Z .pre .period)
 
-  jobs-are : c .before .before .round-up .result ≡ K
+  jobs-are : c .before .before .before .round-up .result ≡ K
   jobs-are =
-      omega (arith, c .before .before .round-up .ensures, ap (jobs (tb Z) (P Z) (Z .args .b) (Z .args .i)) (same A))
+      omega (arith, c .before .before .before .round-up .ensures, ap (jobs (tb Z) (P Z) (Z .args .b) (Z .args .i)) (same A))
 
 -- a job of the active period
 module _ (c : tie.In-loop Inv-loop μ-loop) where
-  abbrev H : tie.After-level-of2 Inv-loop μ-loop
+  abbrev H : tie.After-leave-out Inv-loop μ-loop
   H = c .before .before .before
 
   abbrev k : ℕ
@@ -118,14 +153,14 @@ module _ (c : tie.In-loop Inv-loop μ-loop) where
   counts : k < K H
   counts = omega (arith, c .loop-test .taken, jobs-are H)
 
-  few : suc k ≤ 1000000
+  few : suc k ≤ horizon
   few = omega (arith, counts, jobs-few (working (Z H .pre)))
 
   exists : (s : ℕ) × Start (tb (Z H)) (P (Z H)) (Z H .args .b) (Z H .args .i) (Z H .args .q) (suc k) s
       × (s + Z H .args .q ≤ Z H .pre .period)
   exists = job-exists (working (Z H .pre)) (suc k) (omega arith) counts
 
-  short : exists .0 ≤ 1000000
+  short : exists .0 ≤ horizon
   short = omega (arith, exists .2, Z H .pre .within)
 
 -- its base
@@ -170,11 +205,11 @@ active-period-requires c κs =
       rw (c .before .active-side .ensures) (within (S v .pre) (more v) (v .before .before .more .ensures) (asking v)),
     )
 
-level-of-requires-2 : tie.Need-level-of-requires-2 Inv-loop μ-loop
-level-of-requires-2 c κs =
-    let w = W (c .before .before) in
-    let s = S w in
-    (s .pre .sound .few, λ j e. omega (arith, s .pre .inside j e), w .level-of .kept .1 .1 .0)
+leave-out-requires : tie.Need-leave-out-requires Inv-loop μ-loop
+leave-out-requires c κs =
+    let p = c .before in
+    let v = W (p .before .before) in
+    (omega (arith, p .place .ensures, place-fits v), v .level-of .ensures .few, all-whole v)
 
 loop-holds : tie.Need-loop-holds Inv-loop μ-loop
 loop-holds c =
@@ -227,11 +262,14 @@ response-spec = tie.close (tie.spec Inv-loop μ-loop
     (λ c. omega (arith, c .before .before .before .level-of .ensures .few)) (λ c. fits (c .before .before .before))
     (λ c. sym (length-take-le _ _ (fits (c .before .before .before .before)))) active-period-requires
     (λ c κs. let t = spacing (S (W c)) in (t .low, omega (arith, same c, S (W c) .pre .within, t .high)))
-    (λ c. sym (W (c .before .before) .level-of .kept .1 .1 .0)) level-of-requires-2
+    (λ c. let p = S (W (c .before)) .pre in omega (arith, p .row, p .sound .few))
+    (λ c κs. let p = S (W (c .before)) .pre in omega (arith, p .row, p .sound .few)) (λ c. search needs)
+    (λ c. sym (all-whole (W (c .before .before .before)))) leave-out-requires
     (λ c. omega (arith, least-is (A (c .before)), length-first (working (Z (c .before) .pre)))) loop-holds
     (λ c. let p = Z (H c) .pre in omega (arith, p .row, p .sound .few))
     (λ c. let p = Z (H c) .pre in omega (arith, p .row, p .sound .few)) (λ c. omega (arith, few (c .before)))
-    base-of-requires (λ c. omega (arith, H (c .before .before) .level-of2 .ensures .few))
+    base-of-requires (λ c. omega (arith, place-fits (O (H (c .before .before)))))
+    (λ c. omega (arith, O (H (c .before .before)) .level-of .ensures .few))
     (λ c. above-fits (H (c .before .before)))
     (λ c. sym (length-take-le _ _ (above-fits (H (c .before .before .before))))) start-requires
     (λ c. omega (arith, job c .ends))
