@@ -5,7 +5,7 @@ use std::io;
 
 use common::bridge::{Bridge, Call, Reply};
 
-const ROUNDS: usize = 15;
+const ROUNDS: usize = 40;
 const ROUND: u64 = 300_000;
 
 /// A version linked at two places 16 bytes apart, and the time is the less of both: where a loop

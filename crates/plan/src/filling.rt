@@ -5,6 +5,7 @@ ghost use Rattle.test.specs.Test.{BusyWithin};
 ghost use Rattle.sides.specs.inside.Asks.{Asks};
 ghost use Rattle.plan.specs.inside.Ended.{Ended};
 use search::Pick;
+use tables::MOST_ROWS;
 use tables::PLAN_WIDTH;
 use tables::Row;
 
@@ -12,7 +13,7 @@ use tables::Row;
 // every rank was filled. Nothing of a plan that is not whole goes out.
 pub struct Filling {
     pub stopped: u32,
-    pub plan: [u32; 64],
+    pub plan: [u32; PLAN_WIDTH * MOST_ROWS],
     pub times: [u32; 32],
 }
 
@@ -21,7 +22,7 @@ pub fn fill(rows: [Row; 32], n: usize, asks: &[u64]) -> Filling
     requires { ⌜ Sound (tableIn rows n) × BusyWithin (tableIn rows n) × Asks (tableIn rows n) (now asks) ⌝ }
     ensures { λ r. ⌜ Ended (tableIn rows n) r ⌝ }
 {
-    let mut plan = [0u32; 64];
+    let mut plan = [0u32; PLAN_WIDTH * MOST_ROWS];
     let mut times = [0u32; 32];
     let mut unplaced = marks::whole(n as u32);
     let mut blocking: u64 = 0;
@@ -31,7 +32,7 @@ pub fn fill(rows: [Row; 32], n: usize, asks: &[u64]) -> Filling
         let Pick::Taken(row, len, response) = pick else {
             return Filling {
                 stopped: rank,
-                plan: [0u32; 64],
+                plan: [0u32; PLAN_WIDTH * MOST_ROWS],
                 times: [0u32; 32],
             };
         };

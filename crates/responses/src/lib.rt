@@ -12,6 +12,7 @@ ghost use Rattle.sides.specs.inside.Level.{start-of, Small};
 ghost use Rattle.sides.specs.inside.Found.{Fixed, FixedWithin};
 ghost use Rattle.responses.specs.inside.Asked.{Ranked, Above, Blocks, Planned, Responses};
 use sides::ASK_WIDTH;
+use tables::MOST_ROWS;
 use tables::PLAN_WIDTH;
 use tables::Row;
 
@@ -41,7 +42,7 @@ pub fn response(rows: [Row; 32], asks: &[u64], above: u32, b: u64, i: usize, q: 
     let run = row.c as u64;
     let spacing = row.t as u64;
     let with_own = marks::more(above, i as u32);
-    let mut level = [0u64; 64];
+    let mut level = [0u64; ASK_WIDTH * MOST_ROWS];
     let all = sides::level_of(asks, with_own, &mut level);
     let least = sides::active_side(&level[..ASK_WIDTH * all], b, 1);
     let period = sides::periods::active_period(&level[..ASK_WIDTH * all], b, least);

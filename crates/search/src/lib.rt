@@ -7,6 +7,7 @@ ghost use Rattle.tables.specs.inside.Rows.{tableIn};
 ghost use Rattle.sides.specs.inside.Asks.{many};
 ghost use Rattle.search.specs.inside.Choose.{Searchable, Picked};
 use sides::ASK_WIDTH;
+use tables::MOST_ROWS;
 use tables::Row;
 
 // The row that takes the rank, with its length and its response; or nothing, where no row has a passing length.
@@ -46,7 +47,7 @@ pub fn choose(rows: [Row; 32], asks: &[u64], unplaced: u32, tried: u32, blocking
     requires { ⌜ Searchable (tableIn rows (many (now asks))) (now asks) unplaced tried blocking ⌝ }
     ensures { λ r. ⌜ Picked (tableIn rows (many (now (asks .entry)))) (marked unplaced) blocking (marked tried) r ⌝ }
 {
-    let mut level = [0u64; 64];
+    let mut level = [0u64; ASK_WIDTH * MOST_ROWS];
     let all = sides::level_of(asks, unplaced, &mut level);
     let least = sides::active_side(&level[..ASK_WIDTH * all], blocking, 1);
     let period = sides::periods::active_period(&level[..ASK_WIDTH * all], blocking, least);

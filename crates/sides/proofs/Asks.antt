@@ -19,13 +19,13 @@ module _ (tb : Table) where
     pub inverses : (k : ℕ) → k < i → inverse asks k ≡ inverse-of (tb .T k)
     pub past : (k : ℕ) → ask-width * i ≤ k → getD asks k 0 ≡ 0
 
-  pub stored-none : Stored (replicate 64 0) 0
+  pub stored-none : Stored (replicate (ask-width * most-rows) 0) 0
   stored-none =
       record {
         whole = refl;
         runs = λ k h. absurd (omega arith);
         inverses = λ k h. absurd (omega arith);
-        past = λ k _. zeros 64 k;
+        past = λ k _. zeros (ask-width * most-rows) k;
       }
 
   module _ {asks : List ℕ} {i : ℕ} (w : Stored asks i) where

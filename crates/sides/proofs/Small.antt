@@ -4,7 +4,7 @@ use mathlib.Core.List.{List}
 use native.Mathlib.Omega.{arith}
 use native.Mathlib.Nat.{mul-le-mul, mul-le-mul-right, div-lt-iff-lt-mul}
 use Rattle.counting.specs.Sum.{sum}
-use Rattle.tables.specs.Table.{most-rows}
+use Rattle.tables.specs.Table.{most-rows, most}
 use Rattle.test.specs.Test.{horizon}
 use Rattle.sides.specs.inside.Asks.{scale, inverse-of, many, run, inverse}
 use Rattle.sides.specs.inside.Level.{asked, Small}
@@ -15,7 +15,7 @@ part level s p = (s * inverse level p / scale + 1) * run level p
 
 -- the most that one row asks for
 abbrev pub most-asked : ℕ
-most-asked = 1000001 * 1000000
+most-asked = (horizon + 1) * most
 
 sum-small : (f : ℕ → ℕ) (n b : ℕ) → ((j : ℕ) → j < n → f j ≤ b) → sum f n ≤ n * b
 unfolding sum
@@ -31,9 +31,9 @@ module _ {level : List ℕ} (small : Small level) {s : ℕ} (le : s ≤ horizon)
     releases-small = div-lt-iff-lt-mul {k = scale} {y = 1000001} (omega arith) .1 (omega (arith, product-small))
 
     pub part-small : part level s p ≤ most-asked
-    part-small = mul-le-mul {n₂ = 1000001} {m₂ = 1000000} (omega (arith, releases-small)) (small .runs p l)
+    part-small = mul-le-mul {n₂ = horizon + 1} {m₂ = most} (omega (arith, releases-small)) (small .runs p l)
 
-  pub sum-within : {p : ℕ} → p ≤ many level → sum (part level s) p ≤ 32 * most-asked
+  pub sum-within : {p : ℕ} → p ≤ many level → sum (part level s) p ≤ most-rows * most-asked
   sum-within {p} l =
       omega (
         arith,
@@ -41,6 +41,6 @@ module _ {level : List ℕ} (small : Small level) {s : ℕ} (le : s ≤ horizon)
         mul-le-mul-right {m = p} {n = most-rows} most-asked (omega (arith, small .few)),
       )
 
-  pub asked-small : asked level s ≤ 32 * most-asked
+  pub asked-small : asked level s ≤ most-rows * most-asked
   unfolding asked
   asked-small = sum-within (omega arith)

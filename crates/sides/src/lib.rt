@@ -12,6 +12,7 @@ ghost use Rattle.tables.specs.inside.Rows.{tableIn};
 ghost use Rattle.test.specs.Test.{horizon};
 ghost use Rattle.sides.specs.inside.Asks.{ask-width, many, run, inverse, AsksFront};
 ghost use Rattle.sides.specs.inside.Level.{put, asked, busy-of, active-of, start-of, Small, Packed};
+use tables::MOST_ROWS;
 use tables::Row;
 
 // How many numbers a row asks with: its run, and the inverse of its spacing.
@@ -21,11 +22,11 @@ pub const ASK_WIDTH: usize = 2;
 const SCALE: u64 = 1099511627776;
 
 // What each row asks with: made once for a table.
-pub fn asks_of(rows: [Row; 32], n: usize) -> [u64; 64]
+pub fn asks_of(rows: [Row; 32], n: usize) -> [u64; ASK_WIDTH * MOST_ROWS]
     requires { ⌜ Sound (tableIn rows n) ⌝ }
     ensures { λ r. ⌜ AsksFront (tableIn rows n) r ⌝ }
 {
-    let mut asks: [u64; 64] = [0; 64];
+    let mut asks = [0u64; ASK_WIDTH * MOST_ROWS];
     let mut i: usize = 0;
     while i < n {
         let row = rows[i];

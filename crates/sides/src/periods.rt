@@ -4,6 +4,9 @@ ghost use Rattle.test.specs.Test.{horizon};
 ghost use Rattle.sides.specs.inside.Level.{active-of, busy-of, Small};
 ghost use Rattle.sides.specs.inside.Found.{Fixed, FixedWithin, BusyOf};
 
+// The longest busy period that is not refused.
+const HORIZON: u64 = 1000000;
+
 // The busy period up to the horizon, or that there is none.
 pub enum Busy {
     At(u64),
@@ -22,7 +25,7 @@ pub fn busy_period(level: &[u64]) -> Busy
         if next == t {
             break Busy::At(t);
         }
-        if 1000000 < next {
+        if HORIZON < next {
             break Busy::Beyond;
         }
         t = next;

@@ -6,7 +6,7 @@ use lib.ListN.{length, getD, length-set}
 use lib.Seq.{getD-set-same, getD-set-other}
 use borrow.Author.Needs.{needs}
 use Rattle.counting.proofs.Cases.{by-eq}
-use Rattle.tables.specs.Table.{tableOf}
+use Rattle.tables.specs.Table.{tableOf, most-rows}
 use Rattle.tables.specs.Plan.{planOf}
 use Rattle.tables.proofs.Rows.{holds-none}
 use Rattle.decision.proofs.Order.{row-of}
@@ -16,7 +16,7 @@ use Rattle.decision.proofs.by_rank.Tie as tie
 abbrev Inv-loop : tie.InvT-loop
 Inv-loop table plan n order₀ i₀ order i =
     (i ≤ n)
-    × (length order ≡ 32)
+    × (length order ≡ most-rows)
     × ((j : ℕ) → j < i → getD order (planOf plan .rank j - 1) 0 ≡ j)
     × ((r : ℕ) → n ≤ r → getD order r 0 ≡ 0)
 
@@ -40,7 +40,7 @@ module _ (c : tie.After-shared-slice-known Inv-loop μ-loop) where
   within : rank i ≤ tableOf (l .before .args .table .now) .n
   within = l .before .pre .formed .rank-high i (omega arith)
 
-  high : rank i ≤ 32
+  high : rank i ≤ most-rows
   high = omega (arith, within, l .before .pre .sound .few)
 
   new : (j : ℕ) → j < i → rank j - 1 ≡ rank i - 1 → ⊥
@@ -50,7 +50,7 @@ module _ (c : tie.After-shared-slice-known Inv-loop μ-loop) where
 
 loop-holds : tie.Need-loop-holds Inv-loop μ-loop
 loop-holds c =
-    (omega arith, refl, λ j h. absurd (omega arith), λ r h. holds-none {A = ℕ} 0 (λ _. 0) 32 .past r (omega arith))
+    (omega arith, refl, λ j h. absurd (omega arith), λ r h. holds-none {A = ℕ} 0 (λ _. 0) most-rows .past r (omega arith))
 
 loop-again : tie.Need-loop-again Inv-loop μ-loop
 loop-again c =

@@ -8,6 +8,7 @@ use Rattle.counting.proofs.Cases.{by-eq}
 use lib.Seq.{getD-set-same, getD-set-other}
 use Rattle.tables.specs.Jobs.{jobsOf}
 use Rattle.tables.proofs.Rows.{holds-none}
+use Rattle.tables.specs.Table.{most-rows}
 use Rattle.decision.specs.inside.Decision.{Following}
 use Rattle.decision.proofs.first_jobs.Statement.{statement}
 use Rattle.decision.proofs.first_jobs.Tie as tie
@@ -15,7 +16,7 @@ use Rattle.decision.proofs.first_jobs.Tie as tie
 abbrev Inv-loop : tie.InvT-loop
 Inv-loop jobs n heads₀ i₀ heads i =
     (i ≤ n)
-    × (length heads ≡ 32)
+    × (length heads ≡ most-rows)
     × ((j : ℕ) → j < i → Following (jobsOf jobs) j 0 (getD heads j 0))
     × ((j : ℕ) → i ≤ j → getD heads j 0 ≡ 0)
 
@@ -41,6 +42,6 @@ returns c =
 
 pub first-jobs-spec : {M : Type 1} → statement M
 first-jobs-spec = tie.close (tie.spec Inv-loop μ-loop
-    (λ c. (omega arith, refl, λ j h. absurd (omega arith), holds-none {A = ℕ} 0 (λ _. 0) 32 .past))
+    (λ c. (omega arith, refl, λ j h. absurd (omega arith), holds-none {A = ℕ} 0 (λ _. 0) most-rows .past))
     (λ c. search needs) (λ c κs. search needs) (λ c. search needs) (λ c. search needs) (λ c. search needs)
     (λ c. search needs) loop-again returns)

@@ -4,6 +4,7 @@ use native.Mathlib.Omega.{arith}
 use borrow.Author.Needs.{needs}
 use lib.ListN.{getD}
 use Rattle.counting.proofs.Cases.{by-eq}
+use Rattle.tables.specs.Table.{most-rows}
 use Rattle.decision.proofs.foremost.Statement.{statement}
 use Rattle.decision.proofs.foremost.Tie as tie
 
@@ -14,7 +15,7 @@ abbrev μ-loop : tie.MeasureT-loop
 μ-loop order heads n next r₀ r = n - r
 
 row : (c : tie.After-i Inv-loop μ-loop) →
-    getD (c .before .before .before .args .order .now) (c .before .before .loop .r) 0 < 32
+    getD (c .before .before .before .args .order .now) (c .before .before .loop .r) 0 < most-rows
 row c =
     let s = c .before .before .before in
     omega (arith, s .pre .0, s .pre .1 (c .before .before .loop .r) (c .before .loop-test .taken))

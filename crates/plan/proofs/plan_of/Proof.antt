@@ -10,7 +10,7 @@ use Rattle.tables.specs.Refusal.{Clear}
 use Rattle.tables.specs.Checks.{room}
 use Rattle.tables.specs.inside.Rows.{tableIn}
 use Rattle.test.specs.Test.{BusyWithin}
-use Rattle.sides.specs.inside.Asks.{Asks}
+use Rattle.sides.specs.inside.Asks.{Asks, ask-width}
 use Rattle.sides.specs.inside.Found.{BusyFound}
 use Rattle.sides.proofs.Busy.{busy-asks, busy-found}
 use Rattle.tables.specs.Planned.{planned-width}
@@ -30,10 +30,10 @@ module _ (a : tie.After-asks-of) where
   abbrev T : tie.Start
   T = a .before .before .before
 
-  asks : Asks (tableIn (T .args .rows) (T .args .n)) (take (2 * T .args .n) (a .asks-of .result))
+  asks : Asks (tableIn (T .args .rows) (T .args .n)) (take (ask-width * T .args .n) (a .asks-of .result))
   asks = a .asks-of .ensures .front
 
-  fits : 2 * T .args .n ≤ length (a .asks-of .result)
+  fits : ask-width * T .args .n ≤ length (a .asks-of .result)
   fits = omega (arith, a .asks-of .ensures .whole, T .pre .few)
 
 -- whether there is a busy period

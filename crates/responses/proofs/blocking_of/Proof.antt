@@ -4,7 +4,7 @@ use mathlib.Core.Logic.{⊎-elim}
 use mathlib.Core.Path.{_≡_, sym, ap, _∙_}
 use native.Mathlib.Omega.{arith}
 use borrow.Author.Needs.{needs}
-use Rattle.tables.specs.Plan.{planOf}
+use Rattle.tables.specs.Plan.{planOf, plan-width}
 use Rattle.responses.specs.inside.Asked.{Blocks}
 use Rattle.responses.proofs.Plans.{longest-in, longest-none, longest-more, longest-same, blocking-in}
 use Rattle.responses.proofs.blocking_of.Statement.{statement}
@@ -50,5 +50,5 @@ returns-2 c = blocked (c .before) _ (omega arith)
 pub blocking-of-spec : {M : Type 1} → statement M
 blocking-of-spec = tie.close (tie.spec Inv-loop μ-loop loop-holds (λ c. search needs) (λ c. search needs)
     (λ c. search needs) (λ c. search needs) (λ c. search needs) (λ c. search needs)
-    (λ c. omega (arith, c .shared-slice-known2 .given (2 * c .before .before .before .before .loop .i + 1)))
+    (λ c. omega (arith, c .shared-slice-known2 .given (plan-width * c .before .before .before .before .loop .i + 1)))
     (λ c. search needs) (λ c. search needs) loop-again returns (λ c. search needs) returns-2)

@@ -6,7 +6,7 @@ use lib.ListN.{length-set, length, getD}
 use borrow.Author.Count.{below-none}
 use borrow.Author.Needs.{needs}
 use Rattle.marks.specs.inside.Marks.{marked}
-use Rattle.tables.specs.Table.{Table}
+use Rattle.tables.specs.Table.{Table, most-rows}
 use Rattle.tables.specs.Plan.{planOf}
 use Rattle.tables.specs.inside.Rows.{tableIn}
 use Rattle.tables.proofs.Plan.{cap-run}
@@ -21,7 +21,7 @@ use Rattle.responses.proofs.responses.Tie as tie
 
 abbrev Inv-loop : tie.InvT-loop
 Inv-loop rows n asks plan times₀ i₀ times i =
-    (i ≤ n) × (length times ≡ 32) × ((j : ℕ) → j < i → ResponseOf (tableIn rows n) (planOf plan) j (getD times j 0))
+    (i ≤ n) × (length times ≡ most-rows) × ((j : ℕ) → j < i → ResponseOf (tableIn rows n) (planOf plan) j (getD times j 0))
     × ((j : ℕ) → i ≤ j → getD times j 0 ≡ 0)
 
 abbrev μ-loop : tie.MeasureT-loop
@@ -73,7 +73,7 @@ responds c =
     (c .response .ensures)
 
 loop-holds : tie.Need-loop-holds Inv-loop μ-loop
-loop-holds c = (search needs, refl, below-none _, λ j _. zeros 32 j)
+loop-holds c = (search needs, refl, below-none _, λ j _. zeros most-rows j)
 
 cast-response : tie.Need-cast-response Inv-loop μ-loop
 cast-response c =

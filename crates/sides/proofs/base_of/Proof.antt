@@ -3,12 +3,14 @@ use Prim.Native.Nat.{_≤_, _*_}
 use native.Mathlib.Nat.{mul-le-mul, mul-le-mul-right}
 use native.Mathlib.Omega.{arith}
 use borrow.Author.Needs.{needs}
+use Rattle.tables.specs.Table.{most}
+use Rattle.test.specs.Test.{horizon}
 use Rattle.sides.proofs.base_of.Statement.{statement}
 use Rattle.sides.proofs.base_of.Tie as tie
 
 module _ (s : tie.Start) where
-  runs-small : s .args .k * s .args .row .c ≤ 1000000 * 1000000
-  runs-small = mul-le-mul {n₂ = 1000000} {m₂ = 1000000} (s .pre .4) (s .pre .1)
+  runs-small : s .args .k * s .args .row .c ≤ horizon * most
+  runs-small = mul-le-mul {n₂ = horizon} {m₂ = most} (s .pre .4) (s .pre .1)
 
   whole : s .args .q ≤ s .args .k * s .args .row .c
   whole = omega (arith, s .pre .2, mul-le-mul-right (s .args .row .c) (s .pre .3))

@@ -9,7 +9,7 @@ use Rattle.tables.specs.Table.{Table}
 use Rattle.tables.specs.Refusal.{Clear}
 use Rattle.tables.specs.inside.Rows.{tableIn}
 use Rattle.tables.specs.Checks.{plan-form}
-use Rattle.sides.specs.inside.Asks.{Asks}
+use Rattle.sides.specs.inside.Asks.{Asks, ask-width}
 use Rattle.sides.specs.inside.Found.{BusyFound}
 use Rattle.sides.proofs.Busy.{busy-asks, busy-found}
 use Rattle.responses.specs.inside.Asked.{Planned}
@@ -37,10 +37,10 @@ module _ (a : tie.After-asks-of) where
   abbrev D : tie.After-enum-told
   D = a .before
 
-  asks : Asks (tb D) (take (2 * S D .args .n) (a .asks-of .result))
+  asks : Asks (tb D) (take (ask-width * S D .args .n) (a .asks-of .result))
   asks = a .asks-of .ensures .front
 
-  fits : 2 * S D .args .n ≤ length (a .asks-of .result)
+  fits : ask-width * S D .args .n ≤ length (a .asks-of .result)
   fits = omega (arith, a .asks-of .ensures .whole, S D .pre .few)
 
 -- whether there is a busy period
