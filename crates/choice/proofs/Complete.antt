@@ -133,7 +133,8 @@ module _ (tb : Table) (pos : Positive tb) (p : Plan) (o : Plan) (wf : WellFormed
       let q = p .len y in
       let t = k .3 in
       let b = blocking-is tb p s in
-      peels-compare tb pos r (unplaced p r) (without (unplaced p s) y) (longest tb p r) (max (longest tb p s) (longer tb y q))
+      peels-compare tb pos r (unplaced p r) (without (unplaced p s) y) (longest tb p r)
+      (max (longest tb p s) (longer tb y q))
       (λ j g. unplaced-next p r y j (k .2) (λ e. f .once j y g (k .1) (omega arith) (e ∙ sym (k .2))))
       (longest-cases tb p r
       (λ e. omega arith)

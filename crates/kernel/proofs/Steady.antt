@@ -23,8 +23,8 @@ locked-on tb p i e d h = by-bool (locked tb p i (e + d)) (λ g. g) (λ g. absurd
 abbrev pub Calm : Jobs → ℕ → ℕ → Type 0
 Calm js t x = (k : ℕ) → k < js .N → js .release k ≤ t + x → js .release k ≤ t
 
--- Job c runs in tick t, and d ticks at least are left to it. In each of them it is locked, or it was not locked at t and
--- nothing was released since. (Locked at t it may have run past a job of higher rank, which runs once it is not.)
+-- Job c runs in tick t, and d ticks at least are left to it. In each of them it is locked, or it was not locked at t
+-- and nothing was released since. (Locked at t it may have run past a job of higher rank, which runs once it is not.)
 module _ (tb : Table) (p : Plan) (js : Jobs) (sound : Sound tb) (wf : WellFormed tb p) (lawful : Lawful tb js)
     (t c d : ℕ) (is : X.runs tb p js t ≡ job c) (left : X.E tb p js t c + d ≤ js .run c)
     (calm : (x : ℕ) → x < d →

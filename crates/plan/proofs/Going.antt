@@ -46,7 +46,8 @@ module _ (tb : Table) where
     pub plan-past : (k : ℕ) → plan-width * tb .n ≤ k → getD plan k 0 ≡ 0
     pub times-past : (j : ℕ) → tb .n ≤ j → getD times j 0 ≡ 0
 
-  pub going-first : Sound tb → (rest : ℕ) → Whole (tb .n) rest → Going (replicate (plan-width * most-rows) 0) (replicate most-rows 0) rest 0
+  pub going-first : Sound tb → (rest : ℕ) → Whole (tb .n) rest → Going (replicate (plan-width * most-rows) 0)
+      (replicate most-rows 0) rest 0
   going-first sound rest w =
       record {
         long = length-replicate {A = ℕ} (plan-width * most-rows) 0;
@@ -58,7 +59,8 @@ module _ (tb : Table) where
             (filled-none tb empty (λ j l. zeros (plan-width * most-rows) (plan-width * j)));
         blocks =
             let z : longest tb empty (rank rest) ≡ 0 =
-            longest-cases tb empty (rank rest) (λ e. e) (λ j l lt _. absurd (omega (arith, zeros (plan-width * most-rows) (plan-width * j)))) in
+            longest-cases tb empty (rank rest) (λ e. e)
+            (λ j l lt _. absurd (omega (arith, zeros (plan-width * most-rows) (plan-width * j)))) in
             omega (arith, blocking-is tb empty (rank rest));
         timed = λ j l e. not-both (marked rest j) e (w j ∙ lt-ltb j (tb .n) l);
         plan-past = λ k _. zeros (plan-width * most-rows) k;

@@ -46,7 +46,8 @@ module _ (tb : Table) (out : List ℕ) (pos : Positive tb) (v w : ℕ) (l m : Li
   plan-given-one = (
     a .many ∙ sym (b .many),
     ext-getD 0 l m (a .whole ∙ sym (b .whole))
-        (λ k _. by-le (planned-width * tb .n) k (λ h. same-rest (planned-width * tb .n) l m (a .rest ∙ sym (b .rest)) k h)
+        (λ k _. by-le (planned-width * tb .n) k
+        (λ h. same-rest (planned-width * tb .n) l m (a .rest ∙ sym (b .rest)) k h)
         (λ h. same-front k h)),
   )
 

@@ -13,8 +13,8 @@ use tables::PLANNED_WIDTH;
 use tables::Row;
 use tables::TableCheck;
 
-// plan, once the table is sound: the checks 2, 4 and 5, then the planned table. Nothing is written before all checks are
-// made.
+// plan, once the table is sound: the checks 2, 4 and 5, then the planned table. Nothing is written before all of them
+// are made.
 fn plan_of(rows: [Row; 32], n: usize, out: &mut [u32]) -> Answer
     requires { ⌜ Sound (tableIn rows n) ⌝ }
     ensures { λ r. ⌜ PlanRest (now (out .entry)) (tableIn rows n) (resultOf r (now (out .exit))) ⌝ }

@@ -43,16 +43,19 @@ module _ (ps ts : List ℕ) where
 
   -- one row more: what a turn of the loop does
   pub planned-more : (o : List ℕ) (i : ℕ) →
-      putMid (planned-width * i) (planned-width * i + planned-width - planned-width * i) (planned ps ts i ++ drop (planned-width * i) o) (row-of i)
+      putMid (planned-width * i) (planned-width * i + planned-width - planned-width * i)
+      (planned ps ts i ++ drop (planned-width * i) o) (row-of i)
       ≡ planned ps ts (i + 1) ++ drop (planned-width * (i + 1)) o
   planned-more o i =
       let k : planned-width * i + planned-width - planned-width * i ≡ planned-width = omega arith in
       let m : planned-width * (i + 1) ≡ planned-width * i + planned-width = omega arith in
       rw (k, m, add-one i, planned-next i, ← drop-drop planned-width (planned-width * i) o)
-      (behind (planned ps ts i) (drop (planned-width * i) o) (row-of i) (planned-width * i) planned-width (length-planned i))
+      (behind (planned ps ts i) (drop (planned-width * i) o) (row-of i) (planned-width * i) planned-width
+      (length-planned i))
 
   -- row i of n, read at its place
-  pub planned-at : (n i x : ℕ) → i < n → x < planned-width → getD (planned ps ts n) (planned-width * i + x) 0 ≡ getD (row-of i) x 0
+  pub planned-at : (n i x : ℕ) → i < n → x < planned-width →
+      getD (planned ps ts n) (planned-width * i + x) 0 ≡ getD (row-of i) x 0
   planned-at zero i x h l = absurd (omega arith)
   planned-at (suc n) i x h l =
       by-eq i n
@@ -65,11 +68,14 @@ module _ (ps ts : List ℕ) where
     pub written-whole : length (planned ps ts n ++ drop (planned-width * n) out) ≡ length out
     written-whole = simp (length-append, length-drop) (omega (arith, length-planned n))
 
-    pub written-rest : drop (planned-width * n) (planned ps ts n ++ drop (planned-width * n) out) ≡ drop (planned-width * n) out
+    pub written-rest : drop (planned-width * n) (planned ps ts n ++ drop (planned-width * n) out)
+        ≡ drop (planned-width * n) out
     written-rest = drop-at (planned ps ts n) (drop (planned-width * n) out) (planned-width * n) (length-planned n)
 
-    pub written-at : (i x : ℕ) → i < n → x < planned-width → getD (planned ps ts n ++ drop (planned-width * n) out) (planned-width * i + x) 0
+    pub written-at : (i x : ℕ) → i < n → x < planned-width →
+        getD (planned ps ts n ++ drop (planned-width * n) out) (planned-width * i + x) 0
         ≡ getD (row-of i) x 0
     written-at i x h l =
-        List·getD-append (planned ps ts n) (drop (planned-width * n) out) 0 (planned-width * i + x) (omega (arith, length-planned n))
+        List·getD-append (planned ps ts n) (drop (planned-width * n) out) 0 (planned-width * i + x)
+        (omega (arith, length-planned n))
         ∙ planned-at n i x h l

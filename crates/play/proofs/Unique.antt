@@ -9,7 +9,8 @@ use Rattle.tables.specs.Table.{Table, tableOf}
 use Rattle.tables.specs.Plan.{Plan, planOf}
 use Rattle.tables.specs.Jobs.{Jobs, jobsOf}
 use Rattle.tables.specs.Refusal.{Result}
-use Rattle.tables.proofs.Answered.{OneGiven, bare-one, answered-unique, same-rest, shape-place, range-place, plan-form-place}
+use Rattle.tables.proofs.Answered.{OneGiven, bare-one, answered-unique, same-rest, shape-place, range-place}
+use Rattle.tables.proofs.Answered.{plan-form-place}
 use Rattle.tables.proofs.Answered.{jobs-shape-place, job-rules-place, room-place}
 use Rattle.kernel.specs.Answers.{PlayGiven, play-checks, PlayAnswer}
 use Rattle.kernel.proofs.Finishing.{finish-unique}

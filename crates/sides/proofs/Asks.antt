@@ -39,7 +39,8 @@ module _ (tb : Table) where
           runs =
               λ k g. by-eq k i
               (λ e. rw e (put-first asks i c m h))
-              (λ e. put-other asks i c m (ask-width * k) (λ f. e (omega arith)) (λ f. omega arith) ∙ w .runs k (omega arith));
+              (λ e. put-other asks i c m (ask-width * k) (λ f. e (omega arith)) (λ f. omega arith) ∙ w .runs k
+              (omega arith));
           inverses =
               λ k g. by-eq k i
               (λ e. rw e (put-second asks i c m h))

@@ -1,17 +1,18 @@
 -- Laws of a level from which a row is left out, the last one taking its place: what is summed over the rows that stay
 -- is what is summed over the others; and put back, the level is as it was.
-use Prim.Native.Nat.{ℕ, suc, _+_, _-_, _*_, _≤_, _<_}
+use Prim.Native.Nat.{ℕ, suc, _+_, _-_, _*_, _<_}
 use mathlib.Core.Path.{_≡_, refl, sym, ap, _∙_}
 use mathlib.Core.Bool.{Bool, true}
 use mathlib.Core.List.{List}
 use native.Mathlib.Omega.{arith}
 use lib.Dec.{eqb}
-use lib.ListN.{length, getD}
+use lib.ListN.{length}
 use lib.Seq.{ext-getD}
 use borrow.Author.Tests.{eq-eqb, ne-eqb}
 use Rattle.counting.specs.Sum.{given, sum, count, without}
 use Rattle.counting.proofs.Cases.{by-bool, by-eq, by-le}
-use Rattle.counting.proofs.Sum.{sum-ext, sum-add, sum-delta, sum-without, sum-more, sum-zero, given-yes, given-no, without-elim}
+use Rattle.counting.proofs.Sum.{sum-ext, sum-add, sum-delta, sum-without, sum-more, sum-zero, given-yes, given-no}
+use Rattle.counting.proofs.Sum.{without-elim}
 use Rattle.tables.specs.Table.{most-rows}
 use Rattle.sides.specs.inside.Asks.{ask-width, many, run, inverse}
 use Rattle.sides.specs.inside.Level.{put, Packed}
@@ -114,7 +115,8 @@ module _ {asks : List ℕ} {P : ℕ → Bool} {before level : List ℕ} {m : ℕ
               put-first level p (run level last) (inverse level last) (inside p place-inside),
               put-second level p (run level last) (inverse level last) (inside p place-inside),
             ) in
-            let all : sum G m ≡ sum G last + G last = let z : suc last ≡ m = omega (arith, place-inside) in ap (sum G) (sym z) in
+            let whole : suc last ≡ m = omega (arith, place-inside) in
+            let all : sum G m ≡ sum G last + G last = ap (sum G) (sym whole) in
             let F : ℕ → ℕ = λ j. f (run asks j) (inverse asks j) in
             let total = w .same (λ _ c v. f c v) in
             let out = sum-without P i F (many asks) l e in

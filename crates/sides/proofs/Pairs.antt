@@ -15,7 +15,8 @@ zeros m k =
     (λ h. List·getD-eq-default (replicate m 0) 0 {n = k} (omega (arith, length-replicate {A = ℕ} m 0)))
     (λ h. getD-replicate m k 0 0 h)
 
-pub pairs-same : (l m : List ℕ) → length l ≡ length m → ((i : ℕ) → getD l (ask-width * i) 0 ≡ getD m (ask-width * i) 0) →
+pub pairs-same : (l m : List ℕ) → length l ≡ length m →
+    ((i : ℕ) → getD l (ask-width * i) 0 ≡ getD m (ask-width * i) 0) →
     ((i : ℕ) → getD l (ask-width * i + 1) 0 ≡ getD m (ask-width * i + 1) 0) → l ≡ m
 pairs-same l m long first second =
     ext-getD 0 l m long
@@ -28,7 +29,9 @@ module _ (l : List ℕ) (i x y : ℕ) where
   put-length = simp length-set
 
   pub put-other : (k : ℕ) → ¬ (k ≡ ask-width * i) → ¬ (k ≡ ask-width * i + 1) → getD (put l i x y) k 0 ≡ getD l k 0
-  put-other k e f = getD-set-other (set l (ask-width * i) x) (ask-width * i + 1) k y 0 f ∙ getD-set-other l (ask-width * i) k x 0 e
+  put-other k e f =
+      getD-set-other (set l (ask-width * i) x) (ask-width * i + 1) k y 0 f
+      ∙ getD-set-other l (ask-width * i) k x 0 e
 
   module _ (inside : ask-width * i + 1 < length l) where
     pub put-first : getD (put l i x y) (ask-width * i) 0 ≡ x
@@ -37,4 +40,5 @@ module _ (l : List ℕ) (i x y : ℕ) where
         ∙ getD-set-same l (ask-width * i) x 0 (omega arith)
 
     pub put-second : getD (put l i x y) (ask-width * i + 1) 0 ≡ y
-    put-second = getD-set-same (set l (ask-width * i) x) (ask-width * i + 1) y 0 (omega (arith, length-set l (ask-width * i) x))
+    put-second = getD-set-same (set l (ask-width * i) x) (ask-width * i + 1) y 0
+        (omega (arith, length-set l (ask-width * i) x))

@@ -10,7 +10,7 @@ use lib.Seq.{getD-take}
 use Rattle.counting.proofs.Cases.{by-le}
 use Rattle.counting.proofs.Least.{least-unique}
 use Rattle.tables.specs.Table.{Table}
-use Rattle.sides.specs.inside.Asks.{ask-width, inverse-of, many, run, inverse, AsksFront}
+use Rattle.sides.specs.inside.Asks.{ask-width, inverse-of, run, inverse, AsksFront}
 use Rattle.sides.specs.inside.Level.{Packed}
 use Rattle.sides.specs.inside.Found.{Fixed, BusyOf}
 use Rattle.sides.specs.declared.periods.Busy.{Busy}

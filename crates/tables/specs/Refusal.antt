@@ -32,7 +32,8 @@ bare number place value = value ≡ 0
 module _ {Value Lent : Type 0} where
   -- refused by the check c: its number, a place at which it hits, a value that a refusal of that number carries there
   -- and, "Nothing lent is written", what was lent as it was
-  pub record Refused (Carried : ℕ → ℕ → Value → Type 0) (c : Check) (lent : Lent) (r : Outcome Value Lent) : Type 0 where
+  pub record Refused (Carried : ℕ → ℕ → Value → Type 0) (c : Check) (lent : Lent)
+      (r : Outcome Value Lent) : Type 0 where
     pub number : r .number ≡ c .number
     pub place : c .hits (r .place)
     pub value : Carried (c .number) (r .place) (r .value)

@@ -69,7 +69,13 @@ room tb p r U pos out t h =
     let o = out j l below in
     let others = load-sub tb before U (without every-row j)
     (λ k _ u. without-intro every-row j k (λ q. not-both (U k) (ap U q ∙ o .0) u) refl) t in
-    omega (arith, longer-run tb j (o .1), blocking-is tb p r, load-without tb before every-row j t l refl, run-asked tb pos j t l h))
+    omega (
+      arith,
+      longer-run tb j (o .1),
+      blocking-is tb p r,
+      load-without tb before every-row j t l refl,
+      run-asked tb pos j t l h,
+    ))
 
 -- every active period of a level of U exists, within the busy period
 pub level-active : (tb : Table) (P : ℕ → Bool) (b i : ℕ) → Positive tb → i < tb .n → (w : BusyWithin tb) →

@@ -26,7 +26,8 @@ planned {tb} {ps} sound form busy =
     record { sound = sound; busy = busy; whole = p .0; plan = p .1 }
 
 pub times-given : {tb : Table} {ps out rs after : List ℕ} → Planned tb ps → Responses tb (planOf ps) rs →
-    Written rs (tb .n) out after → Granted (TimesGiven tb (planOf ps) out) (resultOf (Given (times-width * tb .n)) after)
+    Written rs (tb .n) out after → Granted (TimesGiven tb (planOf ps) out)
+    (resultOf (Given (times-width * tb .n)) after)
 times-given {tb} {ps} {out} {rs} {after} p rights w = record { number = refl; place = refl; given = given }
   where
     here : (i : ℕ) → i < tb .n → ResponseOf tb (planOf ps) i (timeIn after i)

@@ -49,8 +49,12 @@ module _ (c : tie.After-shared-slice-known Inv-loop μ-loop) where
       omega (arith, l .before .pre .formed .once j i (omega arith) (omega arith) same)
 
 loop-holds : tie.Need-loop-holds Inv-loop μ-loop
-loop-holds c =
-    (omega arith, refl, λ j h. absurd (omega arith), λ r h. holds-none {A = ℕ} 0 (λ _. 0) most-rows .past r (omega arith))
+loop-holds c = (
+  omega arith,
+  refl,
+  λ j h. absurd (omega arith),
+  λ r h. holds-none {A = ℕ} 0 (λ _. 0) most-rows .past r (omega arith),
+)
 
 loop-again : tie.Need-loop-again Inv-loop μ-loop
 loop-again c =

@@ -30,7 +30,8 @@ loop-again c =
     let a = c .before .before .before .before .before .before .before .args in
     let p = c .before .before .put-row in (
       search needs,
-      same-len-mid (planned-width * l .i) (planned-width * l .i + planned-width - planned-width * l .i) (l .out) (p .last .0) (p .kept .0) ∙ l .inv .1,
+      same-len-mid (planned-width * l .i) (planned-width * l .i + planned-width - planned-width * l .i) (l .out)
+          (p .last .0) (p .kept .0) ∙ l .inv .1,
       rw (l .inv .2, p .ensures) (planned-more (a .t1) (a .t2) (a .out .now) (l .i)),
     )
 

@@ -47,7 +47,8 @@ module _ (c : tie.After-enum-told) where
   form : Clear (plan-form (tb s) (ps s))
   form =
       let d = c .before .before in
-      form-clear (tb s) (ps s) (checked s (d .check-plan .result) (d .before .rows-of .ensures) (d .check-plan .ensures))
+      form-clear (tb s) (ps s)
+      (checked s (d .check-plan .result) (d .before .rows-of .ensures) (d .check-plan .ensures))
       (c .enum-told .given .1)
 
 -- The job list is well formed.
@@ -66,7 +67,8 @@ returns : tie.Need-returns
 returns c =
     let d = c .before .before .before in
     let s = d .before .before .before .before .before .before in
-    form-refuses (tb s) (ps s) (checked s (d .check-plan .result) (d .before .rows-of .ensures) (d .check-plan .ensures))
+    form-refuses (tb s) (ps s)
+    (checked s (d .check-plan .result) (d .before .rows-of .ensures) (d .check-plan .ensures))
     _ _ (c .before .form .given .1)
 
 check-jobs-requires : tie.Need-check-jobs-requires

@@ -140,7 +140,11 @@ module _ (c : tie.After-leave-out Inv-loop μ-loop) where
 
   jobs-are : c .before .before .before .round-up .result ≡ K
   jobs-are =
-      omega (arith, c .before .before .before .round-up .ensures, ap (jobs (tb Z) (P Z) (Z .args .b) (Z .args .i)) (same A))
+      omega (
+        arith,
+        c .before .before .before .round-up .ensures,
+        ap (jobs (tb Z) (P Z) (Z .args .b) (Z .args .i)) (same A),
+      )
 
 -- a job of the active period
 module _ (c : tie.In-loop Inv-loop μ-loop) where

@@ -21,7 +21,8 @@ use Rattle.responses.proofs.responses.Tie as tie
 
 abbrev Inv-loop : tie.InvT-loop
 Inv-loop rows n asks plan times₀ i₀ times i =
-    (i ≤ n) × (length times ≡ most-rows) × ((j : ℕ) → j < i → ResponseOf (tableIn rows n) (planOf plan) j (getD times j 0))
+    (i ≤ n) × (length times ≡ most-rows) ×
+    ((j : ℕ) → j < i → ResponseOf (tableIn rows n) (planOf plan) j (getD times j 0))
     × ((j : ℕ) → i ≤ j → getD times j 0 ≡ 0)
 
 abbrev μ-loop : tie.MeasureT-loop

@@ -51,12 +51,14 @@ module _ (c : tie.After-slice-known2 Inv-loop μ-loop) where
   n = h k .loop .n
 
   abbrev table : List ℕ
-  table = putMid (row-width * n) (row-width * n + row-width - row-width * n) (h k .loop .table) (c .before .before .put-ticks .last .0)
+  table = putMid (row-width * n) (row-width * n + row-width - row-width * n) (h k .loop .table)
+      (c .before .before .put-ticks .last .0)
 
   same : length table ≡ length (s k .args .table .now)
   same =
       let p = c .before .before .put-ticks in
-      same-len-mid (row-width * n) (row-width * n + row-width - row-width * n) (h k .loop .table) (p .last .0) (p .kept .0) ∙ h k .loop .inv .1
+      same-len-mid (row-width * n) (row-width * n + row-width - row-width * n) (h k .loop .table) (p .last .0)
+      (p .kept .0) ∙ h k .loop .inv .1
 
   more : Filled (s k .args .text .now) (s k .args .tick) (s k .args .table .now) (next k) (n + 1) table
   more =
@@ -97,8 +99,11 @@ put-ticks-requires c κs =
     let l = h k .loop in
     let whole = s k .pre .1 in
     let e : row-width * l .n + row-width - row-width * l .n ≡ row-width = omega arith in
-    let room : row-width ≤ length (drop (row-width * l .n) (l .table)) = simp length-drop (omega arith) in
-    (rw e (length-take-le row-width (drop (row-width * l .n) (l .table)) room), line k .allowed, s k .pre .0 .tick-within)
+    let room : row-width ≤ length (drop (row-width * l .n) (l .table)) = simp length-drop (omega arith) in (
+      rw e (length-take-le row-width (drop (row-width * l .n) (l .table)) room),
+      line k .allowed,
+      s k .pre .0 .tick-within,
+    )
 
 returns-2 : tie.Need-returns-2 Inv-loop μ-loop
 returns-2 c =

@@ -41,7 +41,8 @@ module _ (c : tie.After-known-told2) where
   read = told m (c .before .got2 .given .1)
 
   front : take (row-width * n) (table m) ≡ ticksOf (read .0) (read .1)
-  front = ticks-front (read .0) (read .1) n (table m) (drop (row-width * n) (replicate (row-width * most-rows) 0)) (read .3) (read .4)
+  front = ticks-front (read .0) (read .1) n (table m) (drop (row-width * n) (replicate (row-width * most-rows) 0))
+      (read .3) (read .4)
 
   few : row-width * n ≤ row-width * most-rows
   few = omega (arith, read .3, read .2 .formed .few)
