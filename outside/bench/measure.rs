@@ -5,17 +5,21 @@ use std::io;
 
 use common::bridge::{Bridge, Call, Reply};
 
-const ROUNDS: usize = 40;
+const ROUNDS: usize = 20;
+const PROCESSES: usize = 3;
 const ROUND: u64 = 300_000;
 
-/// A version linked at two places 16 bytes apart, and the time is the less of both: where a loop
-/// lies against lines of 32 bytes changes its time by up to a half on some processors.
-struct Version([Bridge; 2]);
+/// A version linked at two places 16 bytes apart, each started several times, and the time is the
+/// least of all: where a loop lies against lines of 32 bytes, and where a process has its pages,
+/// changes a time by up to a half on some processors.
+struct Version(Vec<Bridge>);
 
 impl Version {
     fn start(run: &str, folder: &str, name: &str) -> io::Result<Version> {
-        let at = |place: &str| started(&format!("{run} {folder}/{place}-{name}"));
-        Ok(Version([at("bridge")?, at("shifted")?]))
+        let places = ["bridge", "shifted"].repeat(PROCESSES);
+        Ok(Version(
+            places.iter().map(|place| started(&format!("{run} {folder}/{place}-{name}"))).collect::<Result<_, _>>()?,
+        ))
     }
 
     fn once(&mut self, call: &Call) -> io::Result<Reply> {
