@@ -98,12 +98,6 @@ module _ {Value Lent : Type 0} (Carried : ℕ → ℕ → Value → Type 0) wher
       (λ x. let g = granted cs Given lent r (and-right first (numbered cs) some) zero (x .1) in ((x .0, g .0), g .1))
       a
 
-  -- where no check hits, what is given is the answer
-  pub given-answer : (cs : List Check) {Given : Value → Lent → Type 0} (lent : Lent) {r : Outcome Value Lent} →
-      AllClear cs → Granted Given r → Answered Carried cs Given lent r
-  given-answer [] lent all g = g
-  given-answer (c ∷ cs) lent all g = inr (all .0, given-answer cs lent (all .1) g)
-
 infixr 1 _past_
 -- past a check that does not hit, what answers behind it
 pub _past_ : {R C X : Type 0} → C → X → R ⊎ (C × X)
