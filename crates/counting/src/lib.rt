@@ -11,7 +11,7 @@ pub fn round_up(x: u64, d: u64) -> u64
     (x + (d - 1)) / d
 }
 
-pub fn larger(a: u64, b: u64) -> u64
+pub fn larger(a: u32, b: u32) -> u32
     ensures { λ r. ⌜ r ≡ max a b ⌝ }
 {
     if a < b {

@@ -25,7 +25,7 @@ pub fn fill(rows: [Row; 32], n: usize, asks: &[u64]) -> Filling
     let mut plan = [0u32; PLAN_WIDTH * MOST_ROWS];
     let mut times = [0u32; 32];
     let mut unplaced = marks::whole(n as u32);
-    let mut blocking: u64 = 0;
+    let mut blocking: u32 = 0;
     while unplaced != 0 {
         let rank = marks::size(unplaced);
         let pick = search::choose(rows, asks, unplaced, unplaced, blocking);
@@ -41,7 +41,7 @@ pub fn fill(rows: [Row; 32], n: usize, asks: &[u64]) -> Filling
         plan[at] = rank;
         plan[at + 1] = len;
         times[i] = response;
-        blocking = counting::larger(blocking, (len - 1) as u64);
+        blocking = counting::larger(blocking, len - 1);
         unplaced = marks::less(unplaced, row);
     }
     Filling {

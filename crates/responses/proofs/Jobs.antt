@@ -1,5 +1,5 @@
 -- The jobs of a row's active period: where each is released, starts and ends, and how low its start may be looked for.
-use Prim.Native.Nat.{ℕ, suc, _+_, _*_, _≤_, _<_}
+use Prim.Native.Nat.{ℕ, suc, _+_, _-_, _*_, _≤_, _<_}
 use mathlib.Core.Bool.{Bool}
 use native.Mathlib.Omega.{arith}
 use native.Mathlib.Nat.{mul-le-mul-left}
@@ -7,6 +7,7 @@ use Rattle.tables.specs.Table.{Table}
 use Rattle.test.specs.Test.{horizon, Active, jobs, Start, active-side}
 use Rattle.counting.proofs.Up.{up-le}
 use Rattle.test.proofs.Load.{Positive}
+use Rattle.test.proofs.Sides.{start-side-is}
 use Rattle.test.proofs.Starts.{released-within, start-exists, start-next, start-after, finish-high}
 use Rattle.sides.proofs.Lower.{run-first, start-first}
 
@@ -40,6 +41,12 @@ module _ {tb : Table} {P : ℕ → Bool} {b i q L : ℕ} (w : Working tb P b i q
 
   pub job-exists : (k : ℕ) → 1 ≤ k → k ≤ jobs tb P b i L → (s : ℕ) × Start tb P b i q k s × (s + q ≤ L)
   job-exists = start-exists tb P b i (w .positive) (w .row) q (w .some) (w .most) L (w .active)
+
+  -- what stands beside the load in a start lies within the active period too
+  pub base-within : (k : ℕ) → 1 ≤ k → k ≤ jobs tb P b i L → b + (k * tb .C i - q) ≤ L
+  base-within k low high =
+      let x = job-exists k low high in
+      omega (arith, x .1 .holds, x .2, start-side-is tb P b i q k (x .0))
 
   -- each start but the first is no lower than the one before plus C
   pub next-low : (k : ℕ) {s u : ℕ} → 1 ≤ k → Start tb P b i q k s → Start tb P b i q (suc k) u → s + tb .C i ≤ u

@@ -14,7 +14,6 @@ use Rattle.marks.specs.inside.Marks.{marked, More}
 use Rattle.tables.specs.Table.{Table}
 use Rattle.test.specs.Test.{horizon, Active, active-side}
 use Rattle.test.proofs.Load.{Positive, sound-positive}
-use Rattle.test.proofs.Sides.{active-side-is}
 use Rattle.sides.specs.inside.Asks.{many}
 use Rattle.sides.specs.inside.Level.{active-of}
 use Rattle.sides.specs.inside.Found.{Fixed, FixedWithin}
@@ -29,9 +28,6 @@ module _ {tb : Table} {asks : List ℕ} {set b i q : ℕ} (r : Ranked tb asks se
 
   pub rows : many asks ≡ tb .n
   rows = omega (arith, r .asked .long)
-
-  pub blocking-small : b ≤ horizon
-  blocking-small = omega (arith, r .active .holds, active-side-is tb (marked set) b i (r .period), r .within)
 
   pub working : Working tb (marked set) b i q (r .period)
   working =

@@ -11,10 +11,10 @@ use Rattle.marks.specs.inside.Marks.{marked}
 use Rattle.tables.specs.Table.{Table}
 use Rattle.tables.specs.Plan.{planOf}
 use Rattle.tables.proofs.Plan.{cap-run}
-use Rattle.test.specs.Test.{horizon, Response, ResponseOf, above, blocking}
+use Rattle.test.specs.Test.{Response, ResponseOf, above, blocking}
 use Rattle.sides.specs.inside.Asks.{Asks}
 use Rattle.counting.proofs.Cases.{and-left}
-use Rattle.test.proofs.Plans.{plan-active, plan-bounded}
+use Rattle.test.proofs.Plans.{plan-active}
 use Rattle.responses.specs.inside.Asked.{Ranked, Above, Blocks, Planned}
 use Rattle.responses.proofs.Same.{Agree, agree-sym, active-same, response-same}
 
@@ -55,8 +55,3 @@ module _ {tb : Table} {ps : List ℕ} {i set b : ℕ} (p : Placed tb ps i set b)
 
   pub response-here : {R : ℕ} → Response tb (marked set) b i (planOf ps .len i) R → ResponseOf tb (planOf ps) i R
   response-here x = response-same agree blocked x
-
-  pub response-small : {R : ℕ} → Response tb (marked set) b i (planOf ps .len i) R → R ≤ horizon
-  response-small {R} x =
-      plan-bounded tb (p .planned .sound) (p .planned .busy) (planOf ps) (p .planned .plan) i (p .row) R
-      (response-here x) .high

@@ -17,7 +17,7 @@ use tables::PLAN_WIDTH;
 use tables::Row;
 
 // The start of a job, from its base and climbed to from below: the level holds the rows above.
-fn start(level: &[u64], base: u64, low: u64) -> u64
+fn start(level: &[u64], base: u32, low: u32) -> u32
     requires { ⌜ Small (now level) × FixedWithin (start-of (now level) base) 0 low ⌝ }
     ensures { λ r. ⌜ Fixed (start-of (now (level .entry)) base) 0 r ⌝ }
 {
@@ -34,24 +34,24 @@ fn start(level: &[u64], base: u64, low: u64) -> u64
 
 // The response of row i with blocking b and length q, the rows of the set above it. The active period and the first
 // start begin at what is asked for in the first tick, each other start at the one before plus C.
-pub fn response(rows: [Row; 32], asks: &[u64], above: u32, b: u64, i: usize, q: u64) -> u64
+pub fn response(rows: [Row; 32], asks: &[u64], above: u32, b: u32, i: usize, q: u32) -> u32
     requires { ⌜ Ranked (tableIn rows (many (now asks))) (now asks) above b i q ⌝ }
     ensures { λ r. ⌜ Response (tableIn rows (many (now (asks .entry)))) (marked above) b i q r ⌝ }
 {
     let row = rows[i];
-    let run = row.c as u64;
-    let spacing = row.t as u64;
+    let run = row.c;
+    let spacing = row.t;
     let with_own = marks::more(above, i as u32);
     let mut level = [0u64; ASK_WIDTH * MOST_ROWS];
     let all = sides::level_of(asks, with_own, &mut level);
     let least = sides::active_side(&level[..ASK_WIDTH * all], b, 1);
     let period = sides::periods::active_period(&level[..ASK_WIDTH * all], b, least);
-    let jobs = counting::round_up(period, spacing);
+    let jobs = counting::round_up(period as u64, spacing as u64) as u32;
     let at = marks::place(with_own, i as u32) as usize;
     sides::leave_out(&mut level, all, at);
-    let mut largest: u64 = 0;
+    let mut largest: u32 = 0;
     let mut low = least - q;
-    let mut k: u64 = 0;
+    let mut k: u32 = 0;
     while k < jobs {
         let base = sides::base_of(rows[i], b, q, k + 1);
         let s = start(&level[..ASK_WIDTH * (all - 1)], base, low);
@@ -83,16 +83,16 @@ fn above_of(plan: &[u32], n: usize, rank: u32) -> u32
 }
 
 // The blocking at a rank: the largest length below, less 1; 0 where there is nothing below.
-fn blocking_of(plan: &[u32], n: usize, rank: u32) -> u64
+fn blocking_of(plan: &[u32], n: usize, rank: u32) -> u32
     requires { ⌜ (n ≤ most-rows) × (length (now plan) ≡ plan-width * n) ⌝ }
     ensures { λ r. ⌜ Blocks (planOf (now (plan .entry))) n rank r ⌝ }
 {
-    let mut longest: u64 = 0;
+    let mut longest: u32 = 0;
     let mut i: usize = 0;
     while i < n {
         let at = PLAN_WIDTH * i;
         if rank < plan[at] {
-            let len = plan[at + 1] as u64;
+            let len = plan[at + 1];
             if longest < len {
                 longest = len;
             }
@@ -118,7 +118,7 @@ pub fn responses(rows: [Row; 32], n: usize, asks: &[u64], plan: &[u32]) -> [u32;
         let q = plan[at + 1];
         let above = above_of(plan, n, rank);
         let b = blocking_of(plan, n, rank);
-        times[i] = response(rows, asks, above, b, i, q as u64) as u32;
+        times[i] = response(rows, asks, above, b, i, q);
         i += 1;
     }
     times

@@ -26,9 +26,6 @@ module _ {tb : Table} {asks : List ℕ} {unplaced tried b : ℕ} (s : Searchable
   pub positive : Positive tb
   positive = sound-positive tb (s .sound)
 
-  pub blocking-within : b ≤ horizon
-  blocking-within = let w = s .busy in omega (arith, s .room (w .period) (w .busy .low), w .busy .holds)
-
   -- row i of the level
   module _ (i : ℕ) (e : U i ≡ true) where
     exists : (L : ℕ) × Active tb (without U i) b i L × (L ≤ horizon)

@@ -8,7 +8,7 @@ use Rattle.counting.proofs.Cases.{by-eq}
 use Rattle.counting.proofs.Least.{Climbing, climbing-below, climbing-step, climbing-stops, least-unique}
 use Rattle.tables.specs.Table.{Table}
 use Rattle.test.specs.Test.{upto, jobs, Start, active-side, start-side, Response}
-use Rattle.test.proofs.Sides.{start-side-is, start-side-mono}
+use Rattle.test.proofs.Sides.{start-side-mono}
 use Rattle.test.proofs.Starts.{jobs-some}
 use Rattle.responses.proofs.Jobs.{Working, first-ends, job-exists, job-known, next-low}
 use Rattle.responses.proofs.Largest.{Passed, passed-none, passed-more, passed-all}
@@ -54,12 +54,6 @@ module _ {tb : Table} {P : ℕ → Bool} {b i q L : ℕ} (w : Working tb P b i q
     trial-within =
         let x = job-exists w k (t .low) (t .high) in
         omega (arith, t .climbing .under (x .0) (omega arith) (x .1 .holds))
-
-    -- and so does what stands beside the load
-    pub trial-base : b + (k * tb .C i - q) ≤ L
-    trial-base =
-        let x = job-exists w k (t .low) (t .high) in
-        omega (arith, x .1 .holds, x .2, start-side-is tb P b i q k (x .0))
 
     pub trial-again : Trial tb P b i q L k (side k s) R
     trial-again =

@@ -18,7 +18,7 @@ pub enum Pick {
 
 // The longest length worth a try: the least of C and the best length so far less 1. A row that cannot beat the best
 // cannot take the rank.
-fn cap_of(c: u64, best: u64) -> u64
+fn cap_of(c: u32, best: u32) -> u32
     ensures { λ r. ⌜ (best ≡ 0 → r ≡ c) × (1 ≤ best → r ≡ min c (best - 1)) ⌝ }
 {
     if best == 0 {
@@ -31,7 +31,7 @@ fn cap_of(c: u64, best: u64) -> u64
 }
 
 // The length to try next: the cap first, then the middle of what is left. Passing is closed upward in the length.
-fn next_length(low: u64, high: u64, cap: u64) -> u64
+fn next_length(low: u32, high: u32, cap: u32) -> u32
     requires { ⌜ (high ≤ cap + 1) × (cap ≤ most) × (low ≤ high) ⌝ }
     ensures { λ r. ⌜ (low < high → (low ≤ r) × (r < high)) ⌝ }
 {
@@ -43,7 +43,7 @@ fn next_length(low: u64, high: u64, cap: u64) -> u64
 
 // The rows to try are given beside the unplaced ones. The active period, and what is asked for in its first tick, are
 // the same for every row of the level. No row is tried after one that takes the rank with length 1.
-pub fn choose(rows: [Row; 32], asks: &[u64], unplaced: u32, tried: u32, blocking: u64) -> Pick
+pub fn choose(rows: [Row; 32], asks: &[u64], unplaced: u32, tried: u32, blocking: u32) -> Pick
     requires { ⌜ Searchable (tableIn rows (many (now asks))) (now asks) unplaced tried blocking ⌝ }
     ensures { λ r. ⌜ Picked (tableIn rows (many (now (asks .entry)))) (marked unplaced) blocking (marked tried) r ⌝ }
 {
@@ -52,8 +52,8 @@ pub fn choose(rows: [Row; 32], asks: &[u64], unplaced: u32, tried: u32, blocking
     let least = sides::active_side(&level[..ASK_WIDTH * all], blocking, 1);
     let period = sides::periods::active_period(&level[..ASK_WIDTH * all], blocking, least);
     let mut row: u32 = 0;
-    let mut best: u64 = 0;
-    let mut response: u64 = 0;
+    let mut best: u32 = 0;
+    let mut response: u32 = 0;
     let mut rest = tried;
     'rows: while rest != 0 {
         let i = marks::next(rest);
@@ -62,23 +62,23 @@ pub fn choose(rows: [Row; 32], asks: &[u64], unplaced: u32, tried: u32, blocking
         let at = marks::place(unplaced, i) as usize;
         sides::leave_out(&mut level, all, at);
         let own = rows[i as usize];
-        let c = own.c as u64;
-        let t = own.t as u64;
+        let c = own.c;
+        let t = own.t;
         let cap = cap_of(c, best);
         // No length below low passes; high passes with the response time, or lies past the cap.
-        let mut low: u64 = 1;
+        let mut low: u32 = 1;
         let mut high = cap + 1;
-        let mut time: u64 = 0;
-        let mut len: u64 = 1;
+        let mut time: u32 = 0;
+        let mut len: u32 = 1;
         'lengths: while low < high {
-            let mut k: u64 = 1;
-            let mut largest: u64 = 0;
+            let mut k: u32 = 1;
+            let mut largest: u32 = 0;
             // The first job starts no sooner than after what the level asks for in its first tick, but for the job's
             // own final region.
             let mut s = least - len;
             let passes = 'jobs: loop {
                 let released = (k - 1) * t;
-                let due = released + own.d as u64;
+                let due = released + own.d;
                 let base = sides::base_of(own, blocking, len, k);
                 let start = loop {
                     // Each value is a lower bound of the start: where it is too late, the job misses.
@@ -121,5 +121,5 @@ pub fn choose(rows: [Row; 32], asks: &[u64], unplaced: u32, tried: u32, blocking
     if best == 0 {
         return Pick::Nothing;
     }
-    Pick::Taken(row, best as u32, response as u32)
+    Pick::Taken(row, best, response)
 }

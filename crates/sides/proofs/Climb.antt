@@ -16,7 +16,10 @@ module _ {f : ℕ → ℕ} {lo : ℕ} (mono : Mono f) where
     reached-first =
         (climbing-below f lo low mono (w .up) (w .fixed) (w .from) (w .under), omega (arith, w .under, w .within))
 
+    pub next-within : {s : ℕ} → Climbing f lo s × (s ≤ horizon) → f s ≤ horizon
+    next-within {s} x =
+        let c = climbing-step f lo s mono (x .0) in
+        omega (arith, w .within, c .under (w .point) (w .fixed .low) (w .fixed .holds))
+
     pub reached-next : {s r : ℕ} → Climbing f lo s × (s ≤ horizon) → r ≡ f s → Climbing f lo r × (r ≤ horizon)
-    reached-next x e =
-        let c = climbs (x .0) e in
-        (c, omega (arith, w .within, c .under (w .point) (w .fixed .low) (w .fixed .holds)))
+    reached-next x e = (climbs (x .0) e, omega (arith, next-within x))

@@ -4,6 +4,7 @@ pub mod Pairs
 pub mod Asks
 pub mod Climb
 pub mod Small
+pub mod Summed
 pub mod Level
 pub mod Pack
 pub mod Asking

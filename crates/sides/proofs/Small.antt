@@ -6,12 +6,8 @@ use native.Mathlib.Nat.{mul-le-mul, mul-le-mul-right, div-lt-iff-lt-mul}
 use Rattle.counting.specs.Sum.{sum}
 use Rattle.tables.specs.Table.{most-rows, most}
 use Rattle.test.specs.Test.{horizon}
-use Rattle.sides.specs.inside.Asks.{scale, inverse-of, many, run, inverse}
-use Rattle.sides.specs.inside.Level.{asked, Small}
-
--- what row p of a level asks for by its releases at s or before
-abbrev pub part : List ℕ → ℕ → ℕ → ℕ
-part level s p = (s * inverse level p / scale + 1) * run level p
+use Rattle.sides.specs.inside.Asks.{scale, inverse-of, many, inverse}
+use Rattle.sides.specs.inside.Level.{part-of, asked, Small}
 
 -- the most that one row asks for
 abbrev pub most-asked : ℕ
@@ -30,17 +26,14 @@ module _ {level : List ℕ} (small : Small level) {s : ℕ} (le : s ≤ horizon)
     pub releases-small : s * inverse level p / scale < 1000001
     releases-small = div-lt-iff-lt-mul {k = scale} {y = 1000001} (omega arith) .1 (omega (arith, product-small))
 
-    pub part-small : part level s p ≤ most-asked
+    pub part-small : part-of level s p ≤ most-asked
     part-small = mul-le-mul {n₂ = horizon + 1} {m₂ = most} (omega (arith, releases-small)) (small .runs p l)
-
-  pub sum-within : {p : ℕ} → p ≤ many level → sum (part level s) p ≤ most-rows * most-asked
-  sum-within {p} l =
-      omega (
-        arith,
-        sum-small (part level s) p most-asked (λ j h. part-small (omega arith)),
-        mul-le-mul-right {m = p} {n = most-rows} most-asked (omega (arith, small .few)),
-      )
 
   pub asked-small : asked level s ≤ most-rows * most-asked
   unfolding asked
-  asked-small = sum-within (omega arith)
+  asked-small =
+      omega (
+        arith,
+        sum-small (part-of level s) (many level) most-asked (λ j h. part-small h),
+        mul-le-mul-right {m = many level} {n = most-rows} most-asked (small .few),
+      )

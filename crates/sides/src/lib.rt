@@ -11,7 +11,8 @@ ghost use Rattle.tables.specs.Table.{Sound, most, most-rows};
 ghost use Rattle.tables.specs.inside.Rows.{tableIn};
 ghost use Rattle.test.specs.Test.{horizon};
 ghost use Rattle.sides.specs.inside.Asks.{ask-width, many, run, inverse, AsksFront};
-ghost use Rattle.sides.specs.inside.Level.{put, asked, busy-of, active-of, start-of, Small, Packed};
+ghost use Rattle.sides.specs.inside.Level.{put, part-of, asked, busy-of, active-of, start-of};
+ghost use Rattle.sides.specs.inside.Level.{Small, Packed};
 use tables::MOST_ROWS;
 use tables::Row;
 
@@ -90,34 +91,49 @@ pub fn put_back(level: &mut [u64], p: usize, asks: &[u64], i: usize)
     level[to + 1] = inverse;
 }
 
-// What the rows of the level ask for before t.
-fn load(level: &[u64], t: u64) -> u64
-    requires { ⌜ Small (now level) × (1 ≤ t) × (t ≤ horizon + 1) ⌝ }
-    ensures { λ r. ⌜ r ≡ asked (now (level .entry)) (t - 1) ⌝ }
+// What row p of the level asks for by its releases at s or before.
+fn part(level: &[u64], p: usize, s: u64) -> u64
+    requires { ⌜ Small (now level) × (p < many (now level)) × (s ≤ horizon) ⌝ }
+    ensures { λ r. ⌜ r ≡ part-of (now (level .entry)) s p ⌝ }
 {
-    let s = t - 1;
+    let at = ASK_WIDTH * p;
+    (s * level[at + 1] / SCALE + 1) * level[at]
+}
+
+// The busy period's right side: the level holds all rows. It may lie far past 32 bits.
+pub fn busy_side(level: &[u64], t: u64) -> u64
+    requires { ⌜ Small (now level) × (1 ≤ t) × (t ≤ horizon) ⌝ }
+    ensures { λ r. ⌜ r ≡ busy-of (now (level .entry)) t ⌝ }
+{
     let rows = level.len() / ASK_WIDTH;
     let mut sum: u64 = 0;
     let mut p: usize = 0;
     while p < rows {
-        let at = ASK_WIDTH * p;
-        sum += (s * level[at + 1] / SCALE + 1) * level[at];
+        sum += part(level, p, t - 1);
         p += 1;
     }
     sum
 }
 
-// The busy period's right side: the level holds all rows.
-pub fn busy_side(level: &[u64], t: u64) -> u64
-    requires { ⌜ Small (now level) × (1 ≤ t) × (t ≤ horizon) ⌝ }
-    ensures { λ r. ⌜ r ≡ busy-of (now (level .entry)) t ⌝ }
+// What the rows of the level ask for before t, where that lies within the horizon: 32 bits hold it and all its parts.
+fn load(level: &[u64], t: u32) -> u32
+    requires { ⌜ Small (now level) × (1 ≤ t) × (t ≤ horizon + 1) × (asked (now level) (t - 1) ≤ horizon) ⌝ }
+    ensures { λ r. ⌜ r ≡ asked (now (level .entry)) (t - 1) ⌝ }
 {
-    load(level, t)
+    let s = (t - 1) as u64;
+    let rows = level.len() / ASK_WIDTH;
+    let mut sum: u32 = 0;
+    let mut p: usize = 0;
+    while p < rows {
+        sum += part(level, p, s) as u32;
+        p += 1;
+    }
+    sum
 }
 
 // The active period's right side of a row with blocking b: the level holds the row and those above it.
-pub fn active_side(level: &[u64], b: u64, t: u64) -> u64
-    requires { ⌜ Small (now level) × (b ≤ horizon) × (1 ≤ t) × (t ≤ horizon) ⌝ }
+pub fn active_side(level: &[u64], b: u32, t: u32) -> u32
+    requires { ⌜ Small (now level) × (1 ≤ t) × (t ≤ horizon) × (active-of (now level) b t ≤ horizon) ⌝ }
     ensures { λ r. ⌜ r ≡ active-of (now (level .entry)) b t ⌝ }
 {
     b + load(level, t)
@@ -125,17 +141,17 @@ pub fn active_side(level: &[u64], b: u64, t: u64) -> u64
 
 // What stands beside the load in the start of job k of a row with blocking b and length q: the blocking and the row's
 // own runs, but for the final region of the last.
-pub fn base_of(row: Row, b: u64, q: u64, k: u64) -> u64
-    requires { ⌜ (b ≤ horizon) × (row .c ≤ most) × (q ≤ row .c) × (1 ≤ k) × (k ≤ horizon) ⌝ }
+pub fn base_of(row: Row, b: u32, q: u32, k: u32) -> u32
+    requires { ⌜ (row .c ≤ most) × (q ≤ row .c) × (1 ≤ k) × (b + (k * row .c - q) ≤ horizon) ⌝ }
     ensures { λ r. ⌜ r ≡ b + (k * row .c - q) ⌝ }
 {
-    b + (k * (row.c as u64) - q)
+    b + (k * row.c - q)
 }
 
 // The right side of a start, beside its base: the level holds the rows above. Floor plus one is rounding up one tick
 // later.
-pub fn start_side(level: &[u64], base: u64, s: u64) -> u64
-    requires { ⌜ Small (now level) × (base ≤ horizon) × (s ≤ horizon) ⌝ }
+pub fn start_side(level: &[u64], base: u32, s: u32) -> u32
+    requires { ⌜ Small (now level) × (s ≤ horizon) × (start-of (now level) base s ≤ horizon) ⌝ }
     ensures { λ r. ⌜ r ≡ start-of (now (level .entry)) base s ⌝ }
 {
     base + load(level, s + 1)

@@ -34,8 +34,8 @@ pub fn busy_period(level: &[u64]) -> Busy
 }
 
 // The active period of a row with blocking b, climbed to from below: the level holds the row and those above it.
-pub fn active_period(level: &[u64], b: u64, low: u64) -> u64
-    requires { ⌜ Small (now level) × (b ≤ horizon) × FixedWithin (active-of (now level) b) 1 low ⌝ }
+pub fn active_period(level: &[u64], b: u32, low: u32) -> u32
+    requires { ⌜ Small (now level) × FixedWithin (active-of (now level) b) 1 low ⌝ }
     ensures { λ r. ⌜ Fixed (active-of (now (level .entry)) b) 1 r ⌝ }
 {
     let mut t = low;

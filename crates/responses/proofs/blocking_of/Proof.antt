@@ -50,5 +50,4 @@ returns-2 c = blocked (c .before) _ (omega arith)
 pub blocking-of-spec : {M : Type 1} → statement M
 blocking-of-spec = tie.close (tie.spec Inv-loop μ-loop loop-holds (λ c. search needs) (λ c. search needs)
     (λ c. search needs) (λ c. search needs) (λ c. search needs) (λ c. search needs)
-    (λ c. omega (arith, c .shared-slice-known2 .given (plan-width * c .before .before .before .before .loop .i + 1)))
     (λ c. search needs) (λ c. search needs) loop-again returns (λ c. search needs) returns-2)

@@ -21,10 +21,10 @@ use Rattle.sides.proofs.Level.{Asking}
 use Rattle.sides.proofs.Asking.{Holding, asking-held, asking-packed}
 use Rattle.sides.proofs.Left.{out-same, place-inside, left-holding}
 use Rattle.sides.proofs.Lower.{start-within, start-found}
-use Rattle.responses.proofs.Jobs.{Job, jobs-few, length-first, first-ends}
+use Rattle.responses.proofs.Jobs.{Job, jobs-few, length-first, first-ends, base-within}
 use Rattle.responses.proofs.Jobs.{job-exists, job-known, next-low}
 use Rattle.responses.proofs.Largest.{Passed, passed-none, passed-more, passed-all}
-use Rattle.responses.proofs.Ranked.{rows, blocking-small, working, own, inside, others, first, within, found}
+use Rattle.responses.proofs.Ranked.{rows, working, own, inside, others, first, within, found}
 use Rattle.responses.proofs.response.Statement.{statement}
 use Rattle.responses.proofs.response.Tie as tie
 
@@ -55,7 +55,7 @@ module _ (s : tie.Start Inv-loop μ-loop) where
 -- the level of it and the rows above
 module _ (c : tie.After-level-of Inv-loop μ-loop) where
   abbrev S : tie.Start Inv-loop μ-loop
-  S = c .before .before .before .before .before .before .before
+  S = c .before .before .before .before .before
 
   -- the rows of the level
   abbrev more : ℕ
@@ -97,10 +97,28 @@ module _ (a : tie.After-active-period Inv-loop μ-loop) where
       a .before .before .active-side .ensures
       ∙ first (S W .pre) (more W) (W .before .before .more .ensures) (asking W)
 
+-- its jobs
+module _ (r : tie.After-round-up Inv-loop μ-loop) where
+  abbrev R : tie.Start Inv-loop μ-loop
+  R = S (W (r .before))
+
+  abbrev K : ℕ
+  K = jobs (tb R) (P R) (R .args .b) (R .args .i) (R .pre .period)
+
+  jobs-are : r .round-up .result ≡ K
+  jobs-are =
+      omega (arith, r .round-up .ensures, ap (jobs (tb R) (P R) (R .args .b) (R .args .i)) (same (r .before)))
+
+  jobs-within : r .round-up .result ≤ horizon
+  jobs-within = omega (arith, jobs-are, jobs-few (working (R .pre)))
+
 -- the level of the rows above: the row left out of it
 module _ (c : tie.After-leave-out Inv-loop μ-loop) where
+  abbrev M : tie.After-round-up Inv-loop μ-loop
+  M = c .before .before .before
+
   abbrev A : tie.After-active-period Inv-loop μ-loop
-  A = c .before .before .before .before
+  A = M .before
 
   abbrev O : tie.After-level-of Inv-loop μ-loop
   O = W A
@@ -135,17 +153,6 @@ module _ (c : tie.After-leave-out Inv-loop μ-loop) where
       (asking-held (Z .pre .sound) (Z .pre .asked) whole
       (subst (λ l. Holding (Z .args .asks .now) (without (marked (more O)) i) l last) (sym left-is) held))
 
-  abbrev K : ℕ
-  K = jobs (tb Z) (P Z) (Z .args .b) (Z .args .i) (Z .pre .period)
-
-  jobs-are : c .before .before .before .round-up .result ≡ K
-  jobs-are =
-      omega (
-        arith,
-        c .before .before .before .round-up .ensures,
-        ap (jobs (tb Z) (P Z) (Z .args .b) (Z .args .i)) (same A),
-      )
-
 -- a job of the active period
 module _ (c : tie.In-loop Inv-loop μ-loop) where
   abbrev H : tie.After-leave-out Inv-loop μ-loop
@@ -154,8 +161,8 @@ module _ (c : tie.In-loop Inv-loop μ-loop) where
   abbrev k : ℕ
   k = c .before .loop .k
 
-  counts : k < K H
-  counts = omega (arith, c .loop-test .taken, jobs-are H)
+  counts : k < K (M H)
+  counts = omega (arith, c .loop-test .taken, jobs-are (M H))
 
   few : suc k ≤ horizon
   few = omega (arith, counts, jobs-few (working (Z H .pre)))
@@ -193,19 +200,19 @@ module _ (c : tie.After-start Inv-loop μ-loop) where
 
 level-of-requires : tie.Need-level-of-requires Inv-loop μ-loop
 level-of-requires c κs =
-    let s = c .before .before .before .before .before .before in
+    let s = c .before .before .before .before in
     (s .pre .sound .few, inside (s .pre) (c .before .more .result) (c .before .more .ensures), refl)
 
 active-side-requires : tie.Need-active-side-requires Inv-loop μ-loop
 active-side-requires c κs =
     let v = c .before .before in
-    (asking v .small, blocking-small (S v .pre), omega arith, omega arith)
+    let w = within (S v .pre) (more v) (v .before .before .more .ensures) (asking v) in
+    (asking v .small, omega arith, omega arith, omega (arith, w .under, w .within))
 
 active-period-requires : tie.Need-active-period-requires Inv-loop μ-loop
 active-period-requires c κs =
     let v = c .before .before .before .before in (
       asking v .small,
-      blocking-small (S v .pre),
       rw (c .before .active-side .ensures) (within (S v .pre) (more v) (v .before .before .more .ensures) (asking v)),
     )
 
@@ -223,8 +230,10 @@ loop-holds c =
 
 base-of-requires : tie.Need-base-of-requires Inv-loop μ-loop
 base-of-requires c κs =
-    let x = Z (H (c .before)) in
-    (blocking-small (x .pre), run x .high, x .pre .most, omega arith, omega (arith, few (c .before)))
+    let j = c .before in
+    let x = Z (H j) in
+    let base = base-within (working (x .pre)) (suc (k j)) (omega arith) (counts j) in
+    (run x .high, x .pre .most, omega arith, omega (arith, base, x .pre .within))
 
 start-requires : tie.Need-start-requires Inv-loop μ-loop
 start-requires c κs =
@@ -252,20 +261,22 @@ returns : tie.Need-returns Inv-loop μ-loop
 returns c =
     let h = c .before .before .before in
     let l = c .before .loop in
-    let all : l .k ≡ K h = omega (arith, l .inv .1, c .loop-test .left, jobs-are h) in
+    let all : l .k ≡ K (M h) = omega (arith, l .inv .1, c .loop-test .left, jobs-are (M h)) in
     passed-all (working (Z h .pre)) (rw all at (l .inv .0))
 
 pub response-spec : {M : Type 1} → statement M
 response-spec = tie.close (tie.spec Inv-loop μ-loop
     (λ c. let p = c .before .pre in omega (arith, p .row, p .sound .few))
-    (λ c. let p = c .before .pre in omega (arith, p .row, p .sound .few)) (λ c. search needs) (λ c. search needs)
-    (λ c. let p = c .before .before .before .before .pre in omega (arith, p .row, p .sound .few))
-    (λ c κs. let p = c .before .before .before .before .pre in (omega (arith, p .row, p .sound .few), p .apart))
+    (λ c. let p = c .before .pre in omega (arith, p .row, p .sound .few))
+    (λ c. let p = c .before .before .pre in omega (arith, p .row, p .sound .few))
+    (λ c κs. let p = c .before .before .pre in (omega (arith, p .row, p .sound .few), p .apart))
     (λ c. refl) level-of-requires (λ c. omega (arith, c .before .level-of .ensures .few)) (λ c. fits (c .before))
     (λ c. sym (length-take-le _ _ (fits (c .before .before)))) active-side-requires
     (λ c. omega (arith, c .before .before .before .level-of .ensures .few)) (λ c. fits (c .before .before .before))
     (λ c. sym (length-take-le _ _ (fits (c .before .before .before .before)))) active-period-requires
+    (λ c. search needs) (λ c. omega (arith, spacing (S (W c)) .high))
     (λ c κs. let t = spacing (S (W c)) in (t .low, omega (arith, same c, S (W c) .pre .within, t .high)))
+    (λ c. omega (arith, jobs-within c))
     (λ c. let p = S (W (c .before)) .pre in omega (arith, p .row, p .sound .few))
     (λ c κs. let p = S (W (c .before)) .pre in omega (arith, p .row, p .sound .few)) (λ c. search needs)
     (λ c. sym (all-whole (W (c .before .before .before)))) leave-out-requires
@@ -278,5 +289,5 @@ response-spec = tie.close (tie.spec Inv-loop μ-loop
     (λ c. sym (length-take-le _ _ (above-fits (H (c .before .before .before))))) start-requires
     (λ c. omega (arith, job c .ends))
     (λ c. omega (arith, job c .released)) (λ c. omega (arith, job c .after))
-    (λ c. omega (arith, job (c .before) .ends, run (X (c .before)) .high)) (λ c. search needs) (λ c. search needs)
-    loop-again returns)
+    (λ c. omega (arith, job (c .before) .ends, run (X (c .before)) .high))
+    (λ c. omega (arith, few (J (c .before)))) (λ c. search needs) loop-again returns)

@@ -9,12 +9,11 @@ use Rattle.marks.specs.inside.Marks.{marked}
 use Rattle.tables.specs.Table.{Table, most-rows}
 use Rattle.tables.specs.Plan.{planOf}
 use Rattle.tables.specs.inside.Rows.{tableIn}
-use Rattle.tables.proofs.Plan.{cap-run}
 use Rattle.test.specs.Test.{Response, ResponseOf}
 use Rattle.sides.specs.inside.Asks.{many}
 use Rattle.sides.proofs.Pairs.{zeros}
 use Rattle.responses.specs.inside.Asked.{Ranked}
-use Rattle.responses.proofs.Row.{Placed, ranked, response-here, response-small}
+use Rattle.responses.proofs.Row.{Placed, ranked, response-here}
 use Rattle.responses.proofs.Stored.{stored, unreached}
 use Rattle.responses.proofs.responses.Statement.{statement}
 use Rattle.responses.proofs.responses.Tie as tie
@@ -76,11 +75,6 @@ responds c =
 loop-holds : tie.Need-loop-holds Inv-loop μ-loop
 loop-holds c = (search needs, refl, below-none _, λ j _. zeros most-rows j)
 
-cast-response : tie.Need-cast-response Inv-loop μ-loop
-cast-response c =
-    let w = placed c in
-    omega (arith, cap-run _ _ (w .planned .plan .len-high _ (w .row)), w .planned .sound .row _ (w .row) .C .high)
-
 response-requires : tie.Need-response-requires Inv-loop μ-loop
 response-requires c κs =
     let z = s (l c) in
@@ -111,6 +105,6 @@ pub responses-spec : {M : Type 1} → statement M
 responses-spec = tie.close (tie.spec Inv-loop μ-loop loop-holds (λ c. search needs) (λ c. search needs)
     (λ c. search needs) (λ c. search needs) (λ c. search needs) (λ c. search needs)
     (λ c κs. let p = s (c .before .before) .pre .0 in (p .sound .few, p .whole))
-    (λ c κs. let p = s (c .before .before .before) .pre .0 in (p .sound .few, p .whole)) cast-response
-    response-requires (λ c. omega (arith, response-small (placed (c .before)) (responds c))) (λ c. search needs)
+    (λ c κs. let p = s (c .before .before .before) .pre .0 in (p .sound .few, p .whole))
+    response-requires (λ c. search needs)
     (λ c. search needs) (λ c. search needs) (λ c. search needs) loop-again returns)

@@ -6,7 +6,7 @@ use Rattle.test.specs.Test.{horizon}
 use Rattle.counting.proofs.Least.{Climbing, climbing-stops}
 use Rattle.sides.specs.inside.Level.{start-of}
 use Rattle.sides.proofs.Level.{start-of-mono}
-use Rattle.sides.proofs.Climb.{reached-first, reached-next}
+use Rattle.sides.proofs.Climb.{reached-first, next-within, reached-next}
 use Rattle.responses.proofs.start.Statement.{statement}
 use Rattle.responses.proofs.start.Tie as tie
 
@@ -22,8 +22,8 @@ loop-holds c = reached-first (start-of-mono _ _) (c .before .pre .1)
 start-side-requires : tie.Need-start-side-requires Inv-loop μ-loop
 start-side-requires c κs =
     let p = c .before .before .pre in
-    let w = p .1 in
-    (p .0, omega (arith, w .fixed .holds, w .within), c .loop .inv .1)
+    let w = c .loop .inv in
+    (p .0, w .1, next-within (start-of-mono _ _) (p .1) w)
 
 loop-again : tie.Need-loop-again Inv-loop μ-loop
 loop-again c =

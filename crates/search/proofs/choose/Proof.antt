@@ -6,7 +6,7 @@ use mathlib.Core.Bool.{Bool, true, false}
 use mathlib.Core.List.{List}
 use mathlib.Core.Logic.{_⊎_, inl, inr, ⊎-elim}
 use native.Mathlib.Omega.{arith}
-use native.Mathlib.Nat.{pos-of-ne-zero, mul-le-mul, suc-mul}
+use native.Mathlib.Nat.{pos-of-ne-zero, suc-mul}
 use lib.Count.{trailingZeros}
 use lib.ListN.{length, take}
 use lib.Seq.{length-take-le}
@@ -21,19 +21,19 @@ use Rattle.tables.specs.Plan.{cap}
 use Rattle.tables.specs.inside.Rows.{tableIn}
 use Rattle.tables.proofs.Plan.{cap-is, cap-run}
 use Rattle.test.specs.Test.{horizon, upto, jobs, Active, active-side, start-side, Response}
-use Rattle.test.proofs.Response.{response-unique}
+use Rattle.test.proofs.Starts.{released-within}
 use Rattle.sides.specs.inside.Asks.{ask-width, many, run, inverse}
 use Rattle.sides.specs.inside.Level.{put, start-of}
 use Rattle.sides.proofs.Pairs.{put-length}
 use Rattle.sides.proofs.Level.{Asking, start-of-is}
 use Rattle.sides.proofs.Asking.{Holding, asking-held, asking-packed}
 use Rattle.sides.proofs.Left.{put-same, out-same, place-inside, left-holding, back-same}
-use Rattle.responses.proofs.Jobs.{Working, jobs-few, length-first}
+use Rattle.responses.proofs.Jobs.{Working, jobs-few, length-first, base-within}
 use Rattle.choice.specs.Choice.{Fits}
-use Rattle.search.proofs.Period.{positive, blocking-within, period-within, period-first, period-exists}
+use Rattle.search.proofs.Period.{positive, period-within, period-first, period-exists}
 use Rattle.search.proofs.Period.{period-found}
 use Rattle.search.proofs.Trial.{Trial, trial-first, trial-within, trial-again, trial-misses, trial-after}
-use Rattle.search.proofs.Trial.{trial-base, trial-next, trial-passes}
+use Rattle.search.proofs.Trial.{trial-next, trial-passes}
 use Rattle.search.proofs.Lengths.{Narrowed, narrowed-first, narrowed-fits, narrowed-misses}
 use Rattle.search.proofs.Seen.{Seen, Worth, worth-le, seen-first, seen-same, seen-better, seen-one, seen-all}
 use Rattle.search.proofs.Seen.{seen-none}
@@ -200,7 +200,7 @@ module _ (h : Under tie.After-leave-out) where
 -- ---- its longest length worth a try
 module _ (c : Under tie.After-cap-of) where
   abbrev H : Under tie.After-leave-out
-  H = c .before .before .before .before .before
+  H = c .before .before .before
 
   abbrev top : ℕ
   top = c .cap-of .result
@@ -265,8 +265,17 @@ module _ (c : Under tie.At-jobs) where
   job-few : c .jobs .k ≤ horizon
   job-few = omega (arith, c .jobs .inv .high, jobs-few (working (c .before)))
 
-  released : (c .jobs .k - 1) * tb (S (R (c .before))) .T (i (R (c .before))) ≤ horizon * most
-  released = mul-le-mul {n₂ = horizon} {m₂ = most} (let k = job-few in omega arith) (spaced (R (c .before)) .high)
+  released : (c .jobs .k - 1) * tb (S (R (c .before))) .T (i (R (c .before))) ≤ horizon
+  released =
+      let x = working (c .before) in
+      let h = R (c .before) in
+      let v = c .jobs .inv in
+      omega (
+        arith,
+        released-within (tb (S h)) (P h) (b (S h)) (i h) (x .positive) (x .row) (L h) (c .jobs .k - 1)
+            (omega (arith, v .low, v .high)),
+        x .within,
+      )
 
   -- the next release
   abbrev t : ℕ
@@ -290,6 +299,9 @@ module _ (c : Under tie.At-loop) where
 
   within : c .loop .s + q I ≤ horizon
   within = omega (arith, trial-within (working I) (c .loop .inv), short (R I))
+
+  next-within : side + q I ≤ horizon
+  next-within = omega (arith, trial-within (working I) (trial-again (working I) (c .loop .inv)), short (R I))
 
   -- what the level gives for it
   turned : start-of (take (ask-width * last (R I)) (level (R I))) (c .before .base-of .result) (c .loop .s) ≡ side
@@ -372,14 +384,14 @@ level-of-requires c κs = let p = c .before .before .pre in (p .sound .few, p .i
 active-side-requires : Under tie.Need-active-side-requires
 active-side-requires c κs =
     let w = c .before .before in
-    (all-asking w .small, blocking-within (packed w .pre), omega arith, omega arith)
+    let x = period-exists (packed w .pre) _ (some (packed w)) (all-asking w) in
+    (all-asking w .small, omega arith, omega arith, omega (arith, x .under, x .within))
 
 active-period-requires : Under tie.Need-active-period-requires
 active-period-requires c κs =
     let w = c .before .before .before .before in
     let s = packed w in (
       all-asking w .small,
-      blocking-within (s .pre),
       rw (c .before .active-side .ensures) (period-exists (s .pre) _ (some s) (all-asking w)),
     )
 
@@ -430,14 +442,13 @@ base-of-requires : Under tie.Need-base-of-requires
 base-of-requires c κs =
     let x = c .before .before in
     let h = R x in
-    (blocking-within (S h .pre), runs h .high, working x .most, c .before .jobs .inv .low, job-few (c .before))
+    let t = c .before .jobs .inv in
+    (runs h .high, working x .most, t .low, omega (arith, base-within (working x) _ (t .low) (t .high), short h))
 
 start-side-requires : Under tie.Need-start-side-requires
 start-side-requires c κs =
     let a = c .before .before in
-    let h = R (I a) in
-    let base = trial-base (working (I a)) (a .loop .inv) in
-    (asking h .small, omega (arith, a .before .base-of .ensures, short h), omega (arith, within a))
+    (asking (R (I a)) .small, omega (arith, within a), omega (arith, turned a, next-within a))
 
 loop-less : Under tie.Need-loop-less
 loop-less c =
@@ -509,23 +520,6 @@ rows-again-3 c = let p = c .before .before in (unchanged (D p) (c .if5 .left), b
 returns : Under tie.Need-returns
 returns c = seen-none (c .before .before .rows .inv .0) (c .before .rows-test .left) (c .if7 .taken)
 
-cast-t67 : Under tie.Need-cast-t67
-cast-t67 c =
-    let r = c .before .before in
-    let f = r .rows .inv .0 .found (pos-of-ne-zero (c .if7 .left)) in
-    omega (arith, cap-run _ _ (f .2 .holds .0), begun (r .before) .pre .sound .row (r .rows .row) (f .0) .C .high)
-
-cast-t68 : Under tie.Need-cast-t68
-cast-t68 c =
-    let r = c .before .before .rows in
-    let s = begun (c .before .before .before) in
-    let some = pos-of-ne-zero (c .if7 .left) in
-    let f = r .inv .0 .found some in
-    let x = f .2 .holds .1 in
-    let same = response-unique (tb s) (without (U s) (r .row)) (b s) (r .row) (r .best) (r .response) (x .R)
-    (r .inv .0 .timed some) (x .response) in
-    omega (arith, x .within, s .pre .sound .row (r .row) (f .0) .D .high)
-
 returns-2 : Under tie.Need-returns-2
 returns-2 c =
     let w = c .before .before .rows .inv .0 in
@@ -544,10 +538,10 @@ choose-spec = tie.close (tie.spec Inv-loop μ-loop Inv-jobs μ-jobs Inv-lengths 
     (λ c κs. c .before .next .ensures .inside) (λ c. search needs) (λ c. sym (level-whole (c .before)))
     leave-out-requires (λ c. search needs)
     (λ c. omega (arith, N (c .before) .next .ensures .inside))
-    (λ c. N (c .before) .next .ensures .inside) (λ c. search needs) (λ c. search needs)
+    (λ c. N (c .before) .next .ensures .inside)
     (λ c κs. search needs) (λ c. omega (arith, top-run c, runs (H c) .high)) lengths-holds
     (λ c. omega (arith, length-first (working c), least-is (R c))) jobs-holds (λ c. c .jobs .inv .low)
-    (λ c. omega (arith, released c)) (λ c. search needs) add-due base-of-requires loop-holds
+    (λ c. omega (arith, released c)) add-due base-of-requires loop-holds
     (λ c. omega (arith, within c)) (λ c. omega (arith, place-fits (R (I (c .before)) .before .before)))
     (λ c. omega (arith, W (R (I (c .before))) .level-of .ensures .few))
     (λ c. fits (R (I (c .before)))) (λ c. sym (length-take-le _ _ (fits (R (I (c .before .before))))))
@@ -560,5 +554,4 @@ choose-spec = tie.close (tie.spec Inv-loop μ-loop Inv-jobs μ-jobs Inv-lengths 
     lengths-less lengths-again (λ c. sym (whole (G (c .before)))) (λ c. search needs) put-back-requires
     (λ c. pos-of-ne-zero (N (G (D (c .before .before .before))) .before .rows-test .taken)) rows-again
     (λ c. left (G (D (c .before .before .before))) .less .ensures .smaller) rows-again-2
-    (λ c. left (G (D (c .before .before))) .less .ensures .smaller) rows-again-3 returns cast-t67 cast-t68
-    returns-2)
+    (λ c. left (G (D (c .before .before))) .less .ensures .smaller) rows-again-3 returns returns-2)

@@ -4,23 +4,19 @@ use mathlib.Core.Path.{_≡_, ap}
 use native.Mathlib.Omega.{arith}
 use borrow.Author.Needs.{needs}
 use Rattle.sides.specs.inside.Level.{asked}
-use Rattle.sides.proofs.Small.{asked-small}
 use Rattle.sides.proofs.start_side.Statement.{statement}
 use Rattle.sides.proofs.start_side.Tie as tie
 
--- what is asked for up to s
-upto-s : (c : tie.After-load) → let a = c .before .before .args in c .load .result ≡ asked (a .level .now) (a .s)
-upto-s c =
-    let a = c .before .before .args in
-    let e : a .s + 1 - 1 ≡ a .s = omega arith in
-    omega (arith, c .load .ensures, ap (asked (a .level .now)) e)
+-- what is asked for before s + 1 is what is asked for up to s
+module _ (s : tie.Start) where
+  upto-s : asked (s .args .level .now) (s .args .s + 1 - 1) ≡ asked (s .args .level .now) (s .args .s)
+  upto-s = let e : s .args .s + 1 - 1 ≡ s .args .s = omega arith in ap (asked (s .args .level .now)) e
 
 add-result : tie.Need-add-result
-add-result c =
-    let p = c .before .before .pre in
-    omega (arith, upto-s c, p .1, asked-small (p .0) (p .2))
+add-result c = let s = c .before .before in omega (arith, c .load .ensures, upto-s s, s .pre .2)
 
 pub start-side-spec : {M : Type 1} → statement M
 start-side-spec = tie.close (tie.spec (λ c. search needs)
-    (λ c κs. let p = c .before .pre in (p .0, omega arith, omega (arith, p .2))) add-result
-    (λ c. omega (arith, upto-s c)))
+    (λ c κs. let s = c .before in
+    (s .pre .0, omega arith, omega (arith, s .pre .1), omega (arith, upto-s s, s .pre .2))) add-result
+    (λ c. omega (arith, c .load .ensures, upto-s (c .before .before))))

@@ -12,9 +12,13 @@ use Rattle.sides.specs.inside.Asks.{ask-width, scale, inverse-of, many, 
 abbrev pub put : List ℕ → ℕ → ℕ → ℕ → List ℕ
 put l p c i = set (set l (ask-width * p) c) (ask-width * p + 1) i
 
--- what the rows of a level ask for by their releases at s or before
+-- what row p of a level asks for by its releases at s or before
+abbrev pub part-of : List ℕ → ℕ → ℕ → ℕ
+part-of level s p = (s * inverse level p / scale + 1) * run level p
+
+-- and what all its rows ask for
 unfoldable pub asked : List ℕ → ℕ → ℕ
-asked level s = sum (λ p. (s * inverse level p / scale + 1) * run level p) (many level)
+asked level s = sum (part-of level s) (many level)
 
 -- the right sides: of the busy period, of the active period with blocking b, and of a start, beside which a base
 -- stands that does not depend on s

@@ -111,6 +111,6 @@ fill-spec = tie.close (tie.spec Inv-loop μ-loop (λ c. search needs) (λ c κs.
     (λ c κs. search needs) choose-requires (λ c. search needs) (λ c. search needs) returns (λ c. search needs)
     (λ c. search needs) (λ c. search needs) (λ c. omega (arith, inside c)) (λ c. search needs) (λ c. search needs)
     (λ c. omega (arith, inside c)) (λ c. search needs) (λ c. omega (arith, inside c))
-    (λ c. omega (arith, picked c .0 .shortest .low)) (λ c. search needs) (λ c κs. search needs)
+    (λ c. omega (arith, picked c .0 .shortest .low)) (λ c κs. search needs)
     (λ c κs. (inside (c .before), picked (c .before) .0 .try)) (λ c. c .less .ensures .smaller) loop-again
     (λ c. let a = c .before in going-ends (tb a) (pos a) (a .loop .inv) (c .loop-test .left)))
