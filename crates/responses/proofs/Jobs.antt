@@ -1,5 +1,5 @@
 -- The jobs of a row's active period: where each is released, starts and ends, and how low its start may be looked for.
-use Prim.Native.Nat.{ℕ, suc, _+_, _-_, _*_, _≤_, _<_}
+use Prim.Native.Nat.{ℕ, suc, _+_, _*_, _≤_, _<_}
 use mathlib.Core.Bool.{Bool}
 use native.Mathlib.Omega.{arith}
 use native.Mathlib.Nat.{mul-le-mul-left}
@@ -7,9 +7,8 @@ use Rattle.tables.specs.Table.{Table}
 use Rattle.test.specs.Test.{horizon, Active, jobs, Start, active-side}
 use Rattle.counting.proofs.Up.{up-le}
 use Rattle.test.proofs.Load.{Positive}
-use Rattle.test.proofs.Sides.{start-side-is}
 use Rattle.test.proofs.Starts.{released-within, start-exists, start-next, start-after, finish-high}
-use Rattle.sides.proofs.Lower.{run-first, start-first}
+use Rattle.sides.proofs.Lower.{run-first, start-base}
 
 -- row i, of length q, has the active period L up to H
 pub record Working (tb : Table) (P : ℕ → Bool) (b i q L : ℕ) : Type 0 where
@@ -32,21 +31,19 @@ module _ {tb : Table} {P : ℕ → Bool} {b i q L : ℕ} (w : Working tb P b i q
       let one = w .positive .T i (w .row) in
       omega (arith, up-le L L one (omega (arith, mul-le-mul-left L one)), w .within)
 
-  -- what is asked for in the first tick is no less than the length, and the first job ends no sooner
+  -- what is asked for in the first tick is no less than the length
   pub length-first : q ≤ active-side tb P b i 1
   length-first = omega (arith, w .most, run-first tb P b i (w .positive) (w .row))
-
-  pub first-ends : {s : ℕ} → Start tb P b i q 1 s → active-side tb P b i 1 ≤ s + q
-  first-ends = start-first tb P b i (w .positive) (w .row) (w .most)
 
   pub job-exists : (k : ℕ) → 1 ≤ k → k ≤ jobs tb P b i L → (s : ℕ) × Start tb P b i q k s × (s + q ≤ L)
   job-exists = start-exists tb P b i (w .positive) (w .row) q (w .some) (w .most) L (w .active)
 
-  -- what stands beside the load in a start lies within the active period too
-  pub base-within : (k : ℕ) → 1 ≤ k → k ≤ jobs tb P b i L → b + (k * tb .C i - q) ≤ L
-  base-within k low high =
-      let x = job-exists k low high in
-      omega (arith, x .1 .holds, x .2, start-side-is tb P b i q k (x .0))
+  -- where a job with k others before it may start at the soonest, and so within the active period
+  pub job-base : (k : ℕ) {s : ℕ} → Start tb P b i q (suc k) s → active-side tb P b i 1 + k * tb .C i ≤ s + q
+  job-base k = start-base tb P b i (w .positive) (w .row) k (w .most)
+
+  pub base-within : (k : ℕ) → k < jobs tb P b i L → active-side tb P b i 1 + k * tb .C i ≤ L
+  base-within k counts = let x = job-exists (suc k) (omega arith) counts in omega (arith, job-base k (x .1), x .2)
 
   -- each start but the first is no lower than the one before plus C
   pub next-low : (k : ℕ) {s u : ℕ} → 1 ≤ k → Start tb P b i q k s → Start tb P b i q (suc k) u → s + tb .C i ≤ u

@@ -1,6 +1,6 @@
 -- Laws of a ranked row: over a level of it and the rows above it, its active period; over one of those above, its
 -- starts.
-use Prim.Native.Nat.{ℕ, _≤_, _<_}
+use Prim.Native.Nat.{ℕ, _+_, _<_}
 use mathlib.Core.Path.{_≡_, refl, sym, ap, _∙_, fun-ext}
 use mathlib.Core.Bool.{true, or-false}
 use mathlib.Core.List.{List}
@@ -15,7 +15,7 @@ use Rattle.tables.specs.Table.{Table}
 use Rattle.test.specs.Test.{horizon, Active, active-side}
 use Rattle.test.proofs.Load.{Positive, sound-positive}
 use Rattle.sides.specs.inside.Asks.{many}
-use Rattle.sides.specs.inside.Level.{active-of}
+use Rattle.sides.specs.inside.Level.{runs-of, active-of}
 use Rattle.sides.specs.inside.Found.{Fixed, FixedWithin}
 use Rattle.sides.proofs.Level.{Asking}
 use Rattle.sides.proofs.Lower.{active-first, active-within, active-found}
@@ -56,15 +56,17 @@ module _ {tb : Table} {asks : List ℕ} {set b i q : ℕ} (r : Ranked tb asks se
         (λ e. ap (marked set) e ∙ r .apart)
         (λ e. sym (m j ∙ rw (ne-eqb j i e) (or-false (marked set j)))))
 
-    module _ {level : List ℕ} (a : Asking tb (marked all) level) where
+    -- over a level of it and the rows above
+    module _ {level : List ℕ} (a : Asking tb (marked all) level) {first-asked : ℕ} (f : first-asked ≡ b + runs-of level)
+      where
       abbrev alone : Active tb (without (marked all) i) b i (r .period)
       alone = rw (← others) (r .active)
 
-      pub first : active-of level b 1 ≡ active-side tb (marked set) b i 1
-      first = rw others (active-first a positive b i (r .row) own)
+      pub first : first-asked ≡ active-side tb (marked set) b i 1
+      first = rw others (active-first a positive b i f (r .row) own)
 
-      pub within : FixedWithin (active-of level b) 1 (active-of level b 1)
-      within = active-within a positive b i (r .row) own (r .within) alone
+      pub within : FixedWithin (active-of level first-asked) 1 first-asked
+      within = active-within a positive b i f (r .row) own (r .within) alone
 
-      pub found : {t : ℕ} → Fixed (active-of level b) 1 t → t ≡ r .period
-      found = active-found a positive b i (r .row) own (r .within) alone
+      pub found : {t : ℕ} → Fixed (active-of level first-asked) 1 t → t ≡ r .period
+      found = active-found a positive b i f (r .row) own (r .within) alone

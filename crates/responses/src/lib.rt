@@ -44,16 +44,16 @@ pub fn response(rows: [Row; 32], asks: &[u64], above: u32, b: u32, i: usize, q: 
     let with_own = marks::more(above, i as u32);
     let mut level = [0u64; ASK_WIDTH * MOST_ROWS];
     let all = sides::level_of(asks, with_own, &mut level);
-    let least = sides::active_side(&level[..ASK_WIDTH * all], b, 1);
-    let period = sides::periods::active_period(&level[..ASK_WIDTH * all], b, least);
+    let first = b + sides::runs_of(&level[..ASK_WIDTH * all]);
+    let period = sides::periods::active_period(&level[..ASK_WIDTH * all], first);
     let jobs = counting::round_up(period as u64, spacing as u64) as u32;
     let at = marks::place(with_own, i as u32) as usize;
     sides::leave_out(&mut level, all, at);
     let mut largest: u32 = 0;
-    let mut low = least - q;
+    let mut low = first - q;
     let mut k: u32 = 0;
     while k < jobs {
-        let base = sides::base_of(rows[i], b, q, k + 1);
+        let base = sides::base_of(rows[i], first, q, k);
         let s = start(&level[..ASK_WIDTH * (all - 1)], base, low);
         let took = s + q - k * spacing;
         if largest < took {

@@ -10,7 +10,7 @@ use Rattle.tables.specs.Table.{Table}
 use Rattle.test.specs.Test.{upto, jobs, Start, active-side, start-side, Response}
 use Rattle.test.proofs.Sides.{start-side-mono}
 use Rattle.test.proofs.Starts.{jobs-some}
-use Rattle.responses.proofs.Jobs.{Working, first-ends, job-exists, job-known, next-low}
+use Rattle.responses.proofs.Jobs.{Working, job-base, job-exists, job-known, next-low}
 use Rattle.responses.proofs.Largest.{Passed, passed-none, passed-more, passed-all}
 use Rattle.choice.specs.Choice.{Fits}
 
@@ -37,13 +37,13 @@ module _ {tb : Table} {P : ℕ → Bool} {b i q L : ℕ} (w : Working tb P b i q
       climbing-below (side k) 0 s (start-side-mono tb P b i q k) (omega arith) (x .1) (omega arith) (le (x .0) (x .1))
 
   -- the first job ends no sooner than what is asked for in the first tick
-  pub trial-first : (least : ℕ) → least ≡ active-side tb P b i 1 → Trial tb P b i q L 1 (least - q) 0
-  trial-first least e =
+  pub trial-first : (first : ℕ) → first ≡ active-side tb P b i 1 → Trial tb P b i q L 1 (first - q) 0
+  trial-first first e =
       let g = jobs-some tb P b i (w .positive) (w .row) L (w .active) in
       record {
         low = omega arith;
         high = g;
-        climbing = from-below 1 (least - q) (omega arith) g (λ t st. omega (arith, first-ends w st));
+        climbing = from-below 1 (first - q) (omega arith) g (λ t st. omega (arith, job-base w 0 st));
         met = λ j t x y. absurd (omega arith);
         passed = passed-none tb P b i q;
       }

@@ -49,8 +49,8 @@ pub fn choose(rows: [Row; 32], asks: &[u64], unplaced: u32, tried: u32, blocking
 {
     let mut level = [0u64; ASK_WIDTH * MOST_ROWS];
     let all = sides::level_of(asks, unplaced, &mut level);
-    let least = sides::active_side(&level[..ASK_WIDTH * all], blocking, 1);
-    let period = sides::periods::active_period(&level[..ASK_WIDTH * all], blocking, least);
+    let first = blocking + sides::runs_of(&level[..ASK_WIDTH * all]);
+    let period = sides::periods::active_period(&level[..ASK_WIDTH * all], first);
     let mut row: u32 = 0;
     let mut best: u32 = 0;
     let mut response: u32 = 0;
@@ -75,11 +75,11 @@ pub fn choose(rows: [Row; 32], asks: &[u64], unplaced: u32, tried: u32, blocking
             let mut largest: u32 = 0;
             // The first job starts no sooner than after what the level asks for in its first tick, but for the job's
             // own final region.
-            let mut s = least - len;
+            let mut s = first - len;
             let passes = 'jobs: loop {
                 let released = (k - 1) * t;
                 let due = released + own.d;
-                let base = sides::base_of(own, blocking, len, k);
+                let base = sides::base_of(own, first, len, k - 1);
                 let start = loop {
                     // Each value is a lower bound of the start: where it is too late, the job misses.
                     if due < s + len {

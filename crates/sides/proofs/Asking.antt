@@ -1,6 +1,6 @@
 -- Laws of a packed level: it is small where the table is sound, and asks for what the rows of the table ask for.
 use Prim.Native.Nat.{ℕ, _+_, _*_, _/_, _≤_, _<_}
-use mathlib.Core.Path.{_≡_, refl, ap, _∙_}
+use mathlib.Core.Path.{_≡_, refl, sym, ap, _∙_}
 use mathlib.Core.Bool.{Bool}
 use mathlib.Core.List.{List}
 use native.Mathlib.Omega.{arith}
@@ -11,11 +11,11 @@ use lib.Seq.{length-take-le, getD-take}
 use borrow.Author.Tests.{lt-ltb, le-ltb}
 use Rattle.counting.specs.Sum.{given, sum}
 use Rattle.counting.proofs.Cases.{by-bool, by-le}
-use Rattle.counting.proofs.Sum.{sum-ext, sum-ge, sum-zero, given-yes}
+use Rattle.counting.proofs.Sum.{sum-add, sum-ext, sum-ge, sum-zero, given-yes}
 use Rattle.tables.specs.Table.{Table, Sound, most, most-rows}
 use Rattle.test.specs.Test.{horizon, load, every-row}
 use Rattle.sides.specs.inside.Asks.{ask-width, scale, inverse-of, many, run, inverse, Asks}
-use Rattle.sides.specs.inside.Level.{asked, Packed}
+use Rattle.sides.specs.inside.Level.{runs-of, part-of, later, Packed}
 use Rattle.sides.proofs.Inverse.{by-inverse}
 use Rattle.sides.proofs.Level.{Asking}
 use Rattle.sides.proofs.Pack.{over-same}
@@ -66,8 +66,12 @@ module _ {tb : Table} {asks : List ℕ} (sound : Sound tb) (a : Asks tb asks) wh
   inverse-small : (T : ℕ) → 1 ≤ T → inverse-of T ≤ inverse-of 1
   inverse-small T h = omega (arith, div-mul-le-self scale T, mul-le-mul-left (scale / T) h)
 
+  -- a release in the first tick, and those after it
+  each : (s c i : ℕ) → c + s * i / scale * c ≡ (s * i / scale + 1) * c
+  each s c i = omega arith
+
   asking-of : {P : ℕ → Bool} {level : List ℕ} → Holding asks P level (many level) → Asking tb P level
-  unfolding asked load
+  unfolding runs-of later load
   asking-of {P} {level} w =
       record {
         small = record {
@@ -78,7 +82,9 @@ module _ {tb : Table} {asks : List ℕ} (sound : Sound tb) (a : Asks tb asks) wh
               (λ j l. rw (a .inverses j (row l)) (inverse-small (tb .T j) (sound .row j (row l) .T .low)));
         };
         asks =
-            λ s h. w .same (λ c i. (s * i / scale + 1) * c)
+            λ s h. sym (sum-add (run level) (part-of level s) (many level))
+            ∙ sum-ext _ _ (many level) (λ p _. each s (run level p) (inverse level p))
+            ∙ w .same (λ c i. (s * i / scale + 1) * c)
             ∙ ap (sum (λ j. given (P j) ((s * inverse asks j / scale + 1) * run asks j))) rows
             ∙ sum-ext _ _ (tb .n)
             (λ j l.

@@ -1,6 +1,6 @@
 -- Laws of a level: what it asks for is what the rows of its table ask for, within the horizon; so each right side over
 -- it is that of the test, and so is each least fixed point.
-use Prim.Native.Nat.{ℕ, suc, _+_, _-_, _*_, _≤_, _<_}
+use Prim.Native.Nat.{ℕ, suc, _+_, _-_, _*_, _/_, _≤_, _<_}
 use mathlib.Core.Path.{_≡_, sym, ap, _∙_}
 use mathlib.Core.Bool.{Bool, true}
 use mathlib.Core.List.{List}
@@ -10,55 +10,71 @@ use Rattle.counting.specs.Sum.{without}
 use Rattle.counting.proofs.Cases.{by-le}
 use Rattle.counting.proofs.Up.{div-mono}
 use Rattle.counting.proofs.Least.{Mono, least-unique}
-use Rattle.counting.proofs.Sum.{sum-le}
+use Rattle.counting.proofs.Sum.{sum-le, sum-zero}
 use Rattle.tables.specs.Table.{Table}
 use Rattle.test.specs.Test.{horizon, before, upto, load, every-row, busy-side, active-side, start-side}
 use Rattle.test.proofs.Load.{Positive, load-upto}
-use Rattle.test.proofs.Sides.{active-side-level, start-side-is}
+use Rattle.test.proofs.Sides.{active-side-first, active-side-level, start-side-whole}
 use Rattle.sides.specs.inside.Asks.{scale, many, run, inverse}
-use Rattle.sides.specs.inside.Level.{asked, busy-of, active-of, start-of, Small}
+use Rattle.sides.specs.inside.Level.{runs-of, part-of, later, busy-of, active-of, start-of, Small}
 use Rattle.sides.specs.inside.Found.{Fixed}
 
 -- the level asks for what the rows of the table at which P passes ask for
 pub record Asking (tb : Table) (P : ℕ → Bool) (level : List ℕ) : Type 0 where
   pub small : Small level
-  pub asks : (s : ℕ) → s ≤ horizon → asked level s ≡ load upto tb P s
+  pub asks : (s : ℕ) → s ≤ horizon → runs-of level + later level s ≡ load upto tb P s
 
 module _ (level : List ℕ) where
-  -- it never falls, and so does no right side
-  pub asked-mono : Mono (asked level)
-  unfolding asked
-  asked-mono a b h =
+  -- after the first tick nothing is asked for in it
+  pub later-none : later level 0 ≡ 0
+  unfolding later
+  later-none =
+      sum-zero (part-of level 0) (many level)
+      (λ p _.
+      let none : 0 * inverse level p / scale ≡ 0 = omega arith in
+      omega (arith, ap (λ n. n * run level p) none))
+
+  -- what is asked for never falls, and so does no right side
+  later-mono : Mono (later level)
+  unfolding later
+  later-mono a b h =
       sum-le _ _ (many level)
-      (λ p _. mul-le-mul-right (run level p)
-      (omega (arith, div-mono scale (mul-le-mul-right (inverse level p) h))))
+      (λ p _. mul-le-mul-right (run level p) (div-mono scale (mul-le-mul-right (inverse level p) h)))
 
   pub busy-of-mono : Mono (busy-of level)
-  busy-of-mono x y h = asked-mono (x - 1) (y - 1) (omega arith)
+  busy-of-mono x y h = omega (arith, later-mono (x - 1) (y - 1) (omega arith))
 
-  pub active-of-mono : (b : ℕ) → Mono (active-of level b)
-  active-of-mono b x y h = omega (arith, asked-mono (x - 1) (y - 1) (omega arith))
+  pub active-of-mono : (first : ℕ) → Mono (active-of level first)
+  active-of-mono first x y h = omega (arith, later-mono (x - 1) (y - 1) (omega arith))
 
   pub start-of-mono : (base : ℕ) → Mono (start-of level base)
-  start-of-mono base x y h = omega (arith, asked-mono x y h)
+  start-of-mono base x y h = omega (arith, later-mono x y h)
 
-module _ {tb : Table} {P : ℕ → Bool} {level : List ℕ} (a : Asking tb P level) where
-  -- the level holds the rows above row i
-  pub start-of-is : (b i q k : ℕ) {base : ℕ} → base ≡ b + (k * tb .C i - q) → (s : ℕ) → s ≤ horizon →
-      start-of level base s ≡ start-side tb P b i upto q k s
-  start-of-is b i q k e s h = omega (arith, a .asks s h, start-side-is tb P b i q k s)
+module _ {tb : Table} {P : ℕ → Bool} {level : List ℕ} (a : Asking tb P level) (pos : Positive tb) where
+  asked-before : (t : ℕ) → 1 ≤ t → t ≤ horizon + 1 → runs-of level + later level (t - 1) ≡ load before tb P t
+  asked-before t low high =
+      let e : suc (t - 1) ≡ t = omega arith in
+      a .asks (t - 1) (omega arith) ∙ load-upto tb pos P (t - 1) ∙ ap (load before tb P) e
 
-  module _ (pos : Positive tb) where
-    asked-before : (t : ℕ) → 1 ≤ t → t ≤ horizon + 1 → asked level (t - 1) ≡ load before tb P t
-    asked-before t low high =
-        let e : suc (t - 1) ≡ t = omega arith in
-        a .asks (t - 1) (omega arith) ∙ load-upto tb pos P (t - 1) ∙ ap (load before tb P) e
+  -- it holds the row and those above it
+  pub active-of-is : (b i t : ℕ) {first : ℕ} → first ≡ b + runs-of level → i < tb .n → P i ≡ true → 1 ≤ t →
+      t ≤ horizon → active-of level first t ≡ active-side tb (without P i) b i t
+  active-of-is b i t f l e low high =
+      omega (arith, asked-before t low (omega arith), active-side-level tb P b i t l e)
 
-    -- it holds the row and those above it
-    pub active-of-is : (b i t : ℕ) → i < tb .n → P i ≡ true → 1 ≤ t → t ≤ horizon →
-        active-of level b t ≡ active-side tb (without P i) b i t
-    active-of-is b i t l e low high =
-        omega (arith, asked-before t low (omega arith), active-side-level tb P b i t l e)
+  -- it holds the rows above row i, of whose jobs k have come before
+  pub start-of-is : (b i q k : ℕ) {base : ℕ} → i < tb .n → q ≤ tb .C i →
+      base ≡ active-side tb P b i 1 + k * tb .C i - q → (s : ℕ) → s ≤ horizon →
+      start-of level base s ≡ start-side tb P b i upto q (suc k) s
+  start-of-is b i q k l most e s h =
+      omega (
+        arith,
+        a .asks 0 (omega arith),
+        a .asks s h,
+        later-none level,
+        active-side-first tb P b i pos l,
+        start-side-whole tb P b i q (suc k) s (omega arith) most,
+      )
 
 -- the level holds all rows
 pub busy-of-is : {tb : Table} {level : List ℕ} → Asking tb every-row level → Positive tb → (t : ℕ) → 1 ≤ t →

@@ -11,7 +11,7 @@ ghost use Rattle.tables.specs.Table.{Sound, most, most-rows};
 ghost use Rattle.tables.specs.inside.Rows.{tableIn};
 ghost use Rattle.test.specs.Test.{horizon};
 ghost use Rattle.sides.specs.inside.Asks.{ask-width, many, run, inverse, AsksFront};
-ghost use Rattle.sides.specs.inside.Level.{put, part-of, asked, busy-of, active-of, start-of};
+ghost use Rattle.sides.specs.inside.Level.{put, runs-of, part-of, later, busy-of, active-of, start-of};
 ghost use Rattle.sides.specs.inside.Level.{Small, Packed};
 use tables::MOST_ROWS;
 use tables::Row;
@@ -91,18 +91,33 @@ pub fn put_back(level: &mut [u64], p: usize, asks: &[u64], i: usize)
     level[to + 1] = inverse;
 }
 
-// What row p of the level asks for by its releases at s or before.
+// The runs of the level's rows: what they ask for in the first tick.
+pub fn runs_of(level: &[u64]) -> u32
+    requires { ⌜ Small (now level) ⌝ }
+    ensures { λ r. ⌜ r ≡ runs-of (now (level .entry)) ⌝ }
+{
+    let rows = level.len() / ASK_WIDTH;
+    let mut sum: u32 = 0;
+    let mut p: usize = 0;
+    while p < rows {
+        sum += level[ASK_WIDTH * p] as u32;
+        p += 1;
+    }
+    sum
+}
+
+// What row p of the level asks for by its releases after the first tick, up to s.
 fn part(level: &[u64], p: usize, s: u64) -> u64
     requires { ⌜ Small (now level) × (p < many (now level)) × (s ≤ horizon) ⌝ }
     ensures { λ r. ⌜ r ≡ part-of (now (level .entry)) s p ⌝ }
 {
     let at = ASK_WIDTH * p;
-    (s * level[at + 1] / SCALE + 1) * level[at]
+    s * level[at + 1] / SCALE * level[at]
 }
 
-// The busy period's right side: the level holds all rows. It may lie far past 32 bits.
-pub fn busy_side(level: &[u64], t: u64) -> u64
-    requires { ⌜ Small (now level) × (1 ≤ t) × (t ≤ horizon) ⌝ }
+// The busy period's right side, beside the runs: the level holds all rows. It may lie far past 32 bits.
+pub fn busy_side(level: &[u64], runs: u64, t: u64) -> u64
+    requires { ⌜ Small (now level) × (runs ≡ runs-of (now level)) × (1 ≤ t) × (t ≤ horizon) ⌝ }
     ensures { λ r. ⌜ r ≡ busy-of (now (level .entry)) t ⌝ }
 {
     let rows = level.len() / ASK_WIDTH;
@@ -112,13 +127,14 @@ pub fn busy_side(level: &[u64], t: u64) -> u64
         sum += part(level, p, t - 1);
         p += 1;
     }
-    sum
+    runs + sum
 }
 
-// What the rows of the level ask for before t, where that lies within the horizon: 32 bits hold it and all its parts.
-fn load(level: &[u64], t: u32) -> u32
-    requires { ⌜ Small (now level) × (1 ≤ t) × (t ≤ horizon + 1) × (asked (now level) (t - 1) ≤ horizon) ⌝ }
-    ensures { λ r. ⌜ r ≡ asked (now (level .entry)) (t - 1) ⌝ }
+// What the rows of the level ask for by their releases after the first tick and before t, where that lies within the
+// horizon: 32 bits hold it and all its parts.
+fn later(level: &[u64], t: u32) -> u32
+    requires { ⌜ Small (now level) × (1 ≤ t) × (t ≤ horizon + 1) × (later (now level) (t - 1) ≤ horizon) ⌝ }
+    ensures { λ r. ⌜ r ≡ later (now (level .entry)) (t - 1) ⌝ }
 {
     let s = (t - 1) as u64;
     let rows = level.len() / ASK_WIDTH;
@@ -131,21 +147,22 @@ fn load(level: &[u64], t: u32) -> u32
     sum
 }
 
-// The active period's right side of a row with blocking b: the level holds the row and those above it.
-pub fn active_side(level: &[u64], b: u32, t: u32) -> u32
-    requires { ⌜ Small (now level) × (1 ≤ t) × (t ≤ horizon) × (active-of (now level) b t ≤ horizon) ⌝ }
-    ensures { λ r. ⌜ r ≡ active-of (now (level .entry)) b t ⌝ }
+// The active period's right side of a row, beside what is asked for in the first tick, blocking and runs: the level
+// holds the row and those above it.
+pub fn active_side(level: &[u64], first: u32, t: u32) -> u32
+    requires { ⌜ Small (now level) × (1 ≤ t) × (t ≤ horizon) × (active-of (now level) first t ≤ horizon) ⌝ }
+    ensures { λ r. ⌜ r ≡ active-of (now (level .entry)) first t ⌝ }
 {
-    b + load(level, t)
+    first + later(level, t)
 }
 
-// What stands beside the load in the start of job k of a row with blocking b and length q: the blocking and the row's
-// own runs, but for the final region of the last.
-pub fn base_of(row: Row, b: u32, q: u32, k: u32) -> u32
-    requires { ⌜ (row .c ≤ most) × (q ≤ row .c) × (1 ≤ k) × (b + (k * row .c - q) ≤ horizon) ⌝ }
-    ensures { λ r. ⌜ r ≡ b + (k * row .c - q) ⌝ }
+// What does not depend on s in the start of a row's job of length q, k others of the row before it: what is asked for
+// in the first tick and the runs of the others, but for the job's final region.
+pub fn base_of(row: Row, first: u32, q: u32, k: u32) -> u32
+    requires { ⌜ (q ≤ most) × (q ≤ first) × (first + k * row .c - q ≤ horizon) ⌝ }
+    ensures { λ r. ⌜ r ≡ first + k * row .c - q ⌝ }
 {
-    b + (k * row.c - q)
+    first + k * row.c - q
 }
 
 // The right side of a start, beside its base: the level holds the rows above. Floor plus one is rounding up one tick
@@ -154,5 +171,5 @@ pub fn start_side(level: &[u64], base: u32, s: u32) -> u32
     requires { ⌜ Small (now level) × (s ≤ horizon) × (start-of (now level) base s ≤ horizon) ⌝ }
     ensures { λ r. ⌜ r ≡ start-of (now (level .entry)) base s ⌝ }
 {
-    base + load(level, s + 1)
+    base + later(level, s + 1)
 }

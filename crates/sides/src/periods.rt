@@ -19,28 +19,30 @@ pub fn busy_period(level: &[u64]) -> Busy
     requires { ⌜ Small (now level) × (1 ≤ busy-of (now level) 1) ⌝ }
     ensures { λ r. ⌜ BusyOf (now (level .entry)) r ⌝ }
 {
-    let mut t: u64 = 1;
+    let runs = crate::runs_of(level) as u64;
+    let mut next = runs;
     let found = loop {
-        let next = crate::busy_side(level, t);
-        if next == t {
-            break Busy::At(t);
-        }
         if HORIZON < next {
             break Busy::Beyond;
         }
-        t = next;
+        let t = next;
+        next = crate::busy_side(level, runs, t);
+        if next == t {
+            break Busy::At(t);
+        }
     };
     found
 }
 
-// The active period of a row with blocking b, climbed to from below: the level holds the row and those above it.
-pub fn active_period(level: &[u64], b: u32, low: u32) -> u32
-    requires { ⌜ Small (now level) × FixedWithin (active-of (now level) b) 1 low ⌝ }
-    ensures { λ r. ⌜ Fixed (active-of (now (level .entry)) b) 1 r ⌝ }
+// The active period of a row, climbed to from what is asked for in the first tick: the level holds the row and those
+// above it.
+pub fn active_period(level: &[u64], first: u32) -> u32
+    requires { ⌜ Small (now level) × FixedWithin (active-of (now level) first) 1 first ⌝ }
+    ensures { λ r. ⌜ Fixed (active-of (now (level .entry)) first) 1 r ⌝ }
 {
-    let mut t = low;
+    let mut t = first;
     let period = loop {
-        let next = crate::active_side(level, b, t);
+        let next = crate::active_side(level, first, t);
         if next == t {
             break t;
         }

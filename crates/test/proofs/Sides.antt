@@ -1,15 +1,15 @@
 -- Laws of the right sides of the active period and of the starts: they never fall, and nothing is cut off.
 use Prim.Native.Nat.{ℕ, _+_, _-_, _*_, _≤_, _<_}
-use mathlib.Core.Path.{_≡_, refl}
+use mathlib.Core.Path.{_≡_, refl, ap}
 use mathlib.Core.Bool.{Bool, true}
 use native.Mathlib.Omega.{arith}
 use native.Mathlib.Nat.{mul-le-mul-right}
 use Rattle.counting.specs.Sum.{without}
-use Rattle.counting.proofs.Up.{up-mono}
+use Rattle.counting.proofs.Up.{up-le, up-mono, up-pos}
 use Rattle.counting.proofs.Least.{Mono}
 use Rattle.tables.specs.Table.{Table}
 use Rattle.test.specs.Test.{before, upto, load, active-side, start-side}
-use Rattle.test.proofs.Load.{Positive, load-mono, load-upto-mono, load-without, run-asked}
+use Rattle.test.proofs.Load.{Positive, load-mono, load-upto, load-upto-mono, load-without, run-asked}
 
 module _ (tb : Table) (P : ℕ → Bool) (b i : ℕ) where
   -- the text of each side, for omega
@@ -36,6 +36,13 @@ module _ (tb : Table) (P : ℕ → Bool) (b i : ℕ) where
 
   pub active-side-up : Positive tb → i < tb .n → 1 ≤ active-side tb P b i 1
   active-side-up pos l = omega (arith, active-side-is 1, run-asked tb pos i 1 l (omega arith), pos .C i l)
+
+  -- in the first tick blocking, own run and the runs of the rows above are asked for
+  pub active-side-first : Positive tb → i < tb .n → active-side tb P b i 1 ≡ b + tb .C i + load upto tb P 0
+  active-side-first pos l =
+      let T = pos .T i l in
+      let once : before 1 (tb .T i) ≡ 1 = omega (arith, up-le 1 1 T (omega arith), up-pos 1 T (omega arith)) in
+      omega (arith, active-side-is 1, ap (λ n. n * tb .C i) once, load-upto tb pos P 0)
 
 -- over the rows of U but row i: the level's load is the same for every row of U
 pub active-side-level : (tb : Table) (U : ℕ → Bool) (b i t : ℕ) → i < tb .n → U i ≡ true →

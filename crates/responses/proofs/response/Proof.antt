@@ -15,27 +15,28 @@ use Rattle.test.specs.Test.{horizon, jobs, Start, active-side}
 use Rattle.counting.specs.Sum.{count, without}
 use Rattle.marks.specs.inside.Marks.{marked}
 use Rattle.sides.specs.inside.Asks.{ask-width, many, inverse, run as run-of}
-use Rattle.sides.specs.inside.Level.{put}
+use Rattle.sides.specs.inside.Level.{put, runs-of, active-of}
+use Rattle.sides.specs.inside.Found.{FixedWithin}
 use Rattle.sides.proofs.Pairs.{put-length}
 use Rattle.sides.proofs.Level.{Asking}
 use Rattle.sides.proofs.Asking.{Holding, asking-held, asking-packed}
 use Rattle.sides.proofs.Left.{out-same, place-inside, left-holding}
 use Rattle.sides.proofs.Lower.{start-within, start-found}
-use Rattle.responses.proofs.Jobs.{Job, jobs-few, length-first, first-ends, base-within}
-use Rattle.responses.proofs.Jobs.{job-exists, job-known, next-low}
+use Rattle.responses.proofs.Jobs.{Job, jobs-few, length-first, base-within}
+use Rattle.responses.proofs.Jobs.{job-exists, job-base, job-known, next-low}
 use Rattle.responses.proofs.Largest.{Passed, passed-none, passed-more, passed-all}
-use Rattle.responses.proofs.Ranked.{rows, working, own, inside, others, first, within, found}
+use Rattle.responses.proofs.Ranked.{positive, rows, working, own, inside, others, first, within, found}
 use Rattle.responses.proofs.response.Statement.{statement}
 use Rattle.responses.proofs.response.Tie as tie
 
 abbrev Inv-loop : tie.InvT-loop
-Inv-loop asks above b i q rows run spacing with level all least period jobs at largest₀ low₀ k₀ largest low k =
+Inv-loop asks above b i q rows run spacing with level all first period jobs at largest₀ low₀ k₀ largest low k =
     let tb = tableIn rows (many asks) in
     let P = marked above in
     Passed tb P b i q k largest × (k ≤ jobs) × ((s : ℕ) → Start tb P b i q (suc k) s → low ≤ s)
 
 abbrev μ-loop : tie.MeasureT-loop
-μ-loop asks above b i q rows run spacing with level all least period jobs at largest₀ low₀ k₀ largest low k =
+μ-loop asks above b i q rows run spacing with level all first period jobs at largest₀ low₀ k₀ largest low k =
     jobs - k
 
 -- row i
@@ -83,24 +84,37 @@ module _ (c : tie.After-level-of Inv-loop μ-loop) where
   place-fits : count (marked more) (S .args .i) < c .level-of .result
   place-fits = place-inside (c .level-of .ensures) all-whole (S .args .i) row-inside row-marked
 
+-- what is asked for in the first tick
+module _ (f : tie.After-runs-of Inv-loop μ-loop) where
+  abbrev W : tie.After-level-of Inv-loop μ-loop
+  W = f .before .before .before
+
+  abbrev asked : ℕ
+  asked = S W .args .b + f .runs-of .result
+
+  asks-runs : asked ≡ S W .args .b + runs-of (take (ask-width * W .level-of .result) (all W))
+  asks-runs = omega (arith, f .runs-of .ensures)
+
+  first-is : let s = S W in asked ≡ active-side (tb s) (P s) (s .args .b) (s .args .i) 1
+  first-is = first (S W .pre) (more W) (W .before .before .more .ensures) (asking W) asks-runs
+
+  within-horizon : FixedWithin (active-of (take (ask-width * W .level-of .result) (all W)) asked) 1 asked
+  within-horizon = within (S W .pre) (more W) (W .before .before .more .ensures) (asking W) asks-runs
+
 -- its active period
 module _ (a : tie.After-active-period Inv-loop μ-loop) where
-  abbrev W : tie.After-level-of Inv-loop μ-loop
-  W = a .before .before .before .before .before
+  abbrev F : tie.After-runs-of Inv-loop μ-loop
+  F = a .before .before
 
-  same : a .active-period .result ≡ S W .pre .period
-  same = found (S W .pre) (more W) (W .before .before .more .ensures) (asking W) (a .active-period .ensures)
-
-  least-is : let s = S W in
-      a .before .before .active-side .result ≡ active-side (tb s) (P s) (s .args .b) (s .args .i) 1
-  least-is =
-      a .before .before .active-side .ensures
-      ∙ first (S W .pre) (more W) (W .before .before .more .ensures) (asking W)
+  same : a .active-period .result ≡ S (W F) .pre .period
+  same =
+      let w = W F in
+      found (S w .pre) (more w) (w .before .before .more .ensures) (asking w) (asks-runs F) (a .active-period .ensures)
 
 -- its jobs
 module _ (r : tie.After-round-up Inv-loop μ-loop) where
   abbrev R : tie.Start Inv-loop μ-loop
-  R = S (W (r .before))
+  R = S (W (F (r .before)))
 
   abbrev K : ℕ
   K = jobs (tb R) (P R) (R .args .b) (R .args .i) (R .pre .period)
@@ -121,7 +135,7 @@ module _ (c : tie.After-leave-out Inv-loop μ-loop) where
   A = M .before
 
   abbrev O : tie.After-level-of Inv-loop μ-loop
-  O = W A
+  O = W (F A)
 
   abbrev Z : tie.Start Inv-loop μ-loop
   Z = S O
@@ -176,8 +190,8 @@ module _ (c : tie.In-loop Inv-loop μ-loop) where
 
 -- its base
 based : (c : tie.After-base-of Inv-loop μ-loop) → let j = c .before .before in let x = Z (H j) in
-    c .base-of .result ≡ x .args .b + (suc (k j) * tb x .C (x .args .i) - x .args .q)
-based c = omega (arith, c .base-of .ensures)
+    c .base-of .result ≡ active-side (tb x) (P x) (x .args .b) (x .args .i) 1 + k j * tb x .C (x .args .i) - x .args .q
+based c = omega (arith, c .base-of .ensures, first-is (F (A (H (c .before .before)))))
 
 -- its start
 module _ (c : tie.After-start Inv-loop μ-loop) where
@@ -191,9 +205,10 @@ module _ (c : tie.After-start Inv-loop μ-loop) where
   starts =
       let e = exists J in
       let a = X .args in
+      let p = X .pre in
       subst (Start (tb X) (P X) (a .b) (a .i) (a .q) (suc (k J)))
-      (sym (start-found (above-asking (H J)) (a .b) (a .i) (a .q) (suc (k J)) (based (c .before .before)) (short J)
-      (e .1) (c .start .ensures))) (e .1)
+      (sym (start-found (above-asking (H J)) (positive p) (a .b) (a .i) (a .q) (k J) (p .row) (p .most)
+      (based (c .before .before)) (short J) (e .1) (c .start .ensures))) (e .1)
 
   job : Job (tb X) (X .args .i) (X .args .q) (k J) (c .start .result)
   job = job-known (working (X .pre)) (k J) (counts J) starts
@@ -203,37 +218,34 @@ level-of-requires c κs =
     let s = c .before .before .before .before in
     (s .pre .sound .few, inside (s .pre) (c .before .more .result) (c .before .more .ensures), refl)
 
-active-side-requires : tie.Need-active-side-requires Inv-loop μ-loop
-active-side-requires c κs =
-    let v = c .before .before in
-    let w = within (S v .pre) (more v) (v .before .before .more .ensures) (asking v) in
-    (asking v .small, omega arith, omega arith, omega (arith, w .under, w .within))
+runs-of-requires : tie.Need-runs-of-requires Inv-loop μ-loop
+runs-of-requires c κs = asking (c .before .before) .small
 
 active-period-requires : tie.Need-active-period-requires Inv-loop μ-loop
-active-period-requires c κs =
-    let v = c .before .before .before .before in (
-      asking v .small,
-      rw (c .before .active-side .ensures) (within (S v .pre) (more v) (v .before .before .more .ensures) (asking v)),
-    )
+active-period-requires c κs = let f = c .before in (asking (W f) .small, within-horizon f)
 
 leave-out-requires : tie.Need-leave-out-requires Inv-loop μ-loop
 leave-out-requires c κs =
     let p = c .before in
-    let v = W (p .before .before) in
+    let v = W (F (p .before .before)) in
     (omega (arith, p .place .ensures, place-fits v), v .level-of .ensures .few, all-whole v)
 
 loop-holds : tie.Need-loop-holds Inv-loop μ-loop
 loop-holds c =
     let h = c .before in
-    let least = least-is (A h) in
-    (passed-none _ _ _ _ _, omega arith, λ s st. omega (arith, first-ends (working (Z h .pre)) st))
+    let first = first-is (F (A h)) in
+    (passed-none _ _ _ _ _, omega arith, λ s st. omega (arith, job-base (working (Z h .pre)) 0 st))
 
 base-of-requires : tie.Need-base-of-requires Inv-loop μ-loop
 base-of-requires c κs =
     let j = c .before in
     let x = Z (H j) in
-    let base = base-within (working (x .pre)) (suc (k j)) (omega arith) (counts j) in
-    (run x .high, x .pre .most, omega arith, omega (arith, base, x .pre .within))
+    let w = working (x .pre) in
+    let first = first-is (F (A (H j))) in (
+      omega (arith, x .pre .most, run x .high),
+      omega (arith, length-first w),
+      omega (arith, base-within w (k j) (counts j), x .pre .within),
+    )
 
 start-requires : tie.Need-start-requires Inv-loop μ-loop
 start-requires c κs =
@@ -241,7 +253,9 @@ start-requires c κs =
     let e = exists j in
     let a = above-asking (H j) in
     let x = Z (H j) in
-    let from = start-within a (x .args .b) (x .args .i) (x .args .q) (suc (k j)) (based (c .before)) (short j) (e .1) in
+    let p = x .pre in
+    let from = start-within a (positive p) (x .args .b) (x .args .i) (x .args .q) (k j) (p .row) (p .most)
+    (based (c .before)) (short j) (e .1) in
     (a .small, from (j .before .loop .inv .2 (e .0) (e .1)))
 
 loop-again : tie.Need-loop-again Inv-loop μ-loop
@@ -271,18 +285,19 @@ response-spec = tie.close (tie.spec Inv-loop μ-loop
     (λ c. let p = c .before .before .pre in omega (arith, p .row, p .sound .few))
     (λ c κs. let p = c .before .before .pre in (omega (arith, p .row, p .sound .few), p .apart))
     (λ c. refl) level-of-requires (λ c. omega (arith, c .before .level-of .ensures .few)) (λ c. fits (c .before))
-    (λ c. sym (length-take-le _ _ (fits (c .before .before)))) active-side-requires
+    (λ c. sym (length-take-le _ _ (fits (c .before .before)))) runs-of-requires
+    (λ c. let w = within-horizon c in omega (arith, w .under, w .within))
     (λ c. omega (arith, c .before .before .before .level-of .ensures .few)) (λ c. fits (c .before .before .before))
     (λ c. sym (length-take-le _ _ (fits (c .before .before .before .before)))) active-period-requires
-    (λ c. search needs) (λ c. omega (arith, spacing (S (W c)) .high))
-    (λ c κs. let t = spacing (S (W c)) in (t .low, omega (arith, same c, S (W c) .pre .within, t .high)))
+    (λ c. search needs) (λ c. omega (arith, spacing (S (W (F c))) .high))
+    (λ c κs. let t = spacing (S (W (F c))) in (t .low, omega (arith, same c, S (W (F c)) .pre .within, t .high)))
     (λ c. omega (arith, jobs-within c))
-    (λ c. let p = S (W (c .before)) .pre in omega (arith, p .row, p .sound .few))
-    (λ c κs. let p = S (W (c .before)) .pre in omega (arith, p .row, p .sound .few)) (λ c. search needs)
-    (λ c. sym (all-whole (W (c .before .before .before)))) leave-out-requires
-    (λ c. omega (arith, least-is (A (c .before)), length-first (working (Z (c .before) .pre)))) loop-holds
+    (λ c. let p = S (W (F (c .before))) .pre in omega (arith, p .row, p .sound .few))
+    (λ c κs. let p = S (W (F (c .before))) .pre in omega (arith, p .row, p .sound .few)) (λ c. search needs)
+    (λ c. sym (all-whole (W (F (c .before .before .before))))) leave-out-requires
+    (λ c. omega (arith, first-is (F (A (c .before))), length-first (working (Z (c .before) .pre)))) loop-holds
     (λ c. let p = Z (H c) .pre in omega (arith, p .row, p .sound .few))
-    (λ c. let p = Z (H c) .pre in omega (arith, p .row, p .sound .few)) (λ c. omega (arith, few (c .before)))
+    (λ c. let p = Z (H c) .pre in omega (arith, p .row, p .sound .few))
     base-of-requires (λ c. omega (arith, place-fits (O (H (c .before .before)))))
     (λ c. omega (arith, O (H (c .before .before)) .level-of .ensures .few))
     (λ c. above-fits (H (c .before .before)))

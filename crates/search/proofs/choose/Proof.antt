@@ -23,7 +23,8 @@ use Rattle.tables.proofs.Plan.{cap-is, cap-run}
 use Rattle.test.specs.Test.{horizon, upto, jobs, Active, active-side, start-side, Response}
 use Rattle.test.proofs.Starts.{released-within}
 use Rattle.sides.specs.inside.Asks.{ask-width, many, run, inverse}
-use Rattle.sides.specs.inside.Level.{put, start-of}
+use Rattle.sides.specs.inside.Level.{put, runs-of, active-of, start-of}
+use Rattle.sides.specs.inside.Found.{FixedWithin}
 use Rattle.sides.proofs.Pairs.{put-length}
 use Rattle.sides.proofs.Level.{Asking, start-of-is}
 use Rattle.sides.proofs.Asking.{Holding, asking-held, asking-packed}
@@ -41,40 +42,40 @@ use Rattle.search.proofs.choose.Statement.{statement}
 use Rattle.search.proofs.choose.Tie as tie
 
 abbrev Inv-loop : tie.InvT-loop
-Inv-loop asks unplaced tried b rows level all least period row best response rest i at own c t cap low
+Inv-loop asks unplaced tried b rows level all first period row best response rest i at own c t cap low
     high time len k largest s₀ released due base s =
     Trial (tableIn rows (many asks)) (without (marked unplaced) i) b i len period k s largest
 
 abbrev μ-loop : tie.MeasureT-loop
-μ-loop asks unplaced tried b rows level all least period row best response rest i at own c t cap low
+μ-loop asks unplaced tried b rows level all first period row best response rest i at own c t cap low
     high time len k largest s₀ released due base s = horizon + 1 - s
 
 abbrev Inv-jobs : tie.InvT-jobs
-Inv-jobs asks unplaced tried b rows level all least period row best response rest i at own c t cap low
+Inv-jobs asks unplaced tried b rows level all first period row best response rest i at own c t cap low
     high time len k₀ largest₀ s₀ k largest s =
     Trial (tableIn rows (many asks)) (without (marked unplaced) i) b i len period k s largest
 
 abbrev μ-jobs : tie.MeasureT-jobs
-μ-jobs asks unplaced tried b rows level all least period row best response rest i at own c t cap low
+μ-jobs asks unplaced tried b rows level all first period row best response rest i at own c t cap low
     high time len k₀ largest₀ s₀ k largest s =
     jobs (tableIn rows (many asks)) (without (marked unplaced) i) b i period + 1 - k
 
 abbrev Inv-lengths : tie.InvT-lengths
-Inv-lengths asks unplaced tried b rows level all least period row best response rest i at own c t cap low₀
+Inv-lengths asks unplaced tried b rows level all first period row best response rest i at own c t cap low₀
     high₀ time₀ len₀ low high time len =
     Narrowed (tableIn rows (many asks)) (without (marked unplaced) i) b i cap low high time
     × (low < high → (low ≤ len) × (len < high))
 
 abbrev μ-lengths : tie.MeasureT-lengths
-μ-lengths asks unplaced tried b rows level all least period row best response rest i at own c t cap low₀
+μ-lengths asks unplaced tried b rows level all first period row best response rest i at own c t cap low₀
     high₀ time₀ len₀ low high time len = high - low
 
 abbrev Inv-rows : tie.InvT-rows
-Inv-rows asks unplaced tried b rows level₀ all least period row₀ best₀ response₀ rest₀ level row best response rest =
+Inv-rows asks unplaced tried b rows level₀ all first period row₀ best₀ response₀ rest₀ level row best response rest =
     Seen (tableIn rows (many asks)) (marked unplaced) b (marked tried) row best response rest × (level ≡ level₀)
 
 abbrev μ-rows : tie.MeasureT-rows
-μ-rows asks unplaced tried b rows level₀ all least period row₀ best₀ response₀ rest₀ level row best response rest =
+μ-rows asks unplaced tried b rows level₀ all first period row₀ best₀ response₀ rest₀ level row best response rest =
     rest
 
 -- a place, or a need, under these invariants
@@ -114,9 +115,21 @@ module _ (w : Under tie.After-level-of) where
   all-asking : Asking (tb packed) (U packed) (take (ask-width * w .level-of .result) all)
   all-asking = asking-packed (packed .pre .sound) (packed .pre .asked) all-whole (w .level-of .ensures)
 
--- ---- where the level began
-abbrev begun : Under tie.After-active-period → Under tie.Start
-begun a = packed (a .before .before .before .before .before)
+-- ---- what it asks for in the first tick
+module _ (f : Under tie.After-runs-of) where
+  abbrev whole-level : Under tie.After-level-of
+  whole-level = f .before .before .before
+
+  abbrev first : ℕ
+  first = b (packed whole-level) + f .runs-of .result
+
+  asks-runs : first ≡ b (packed whole-level) + runs-of (take (ask-width * whole-level .level-of .result) (all whole-level))
+  asks-runs = omega (arith, f .runs-of .ensures)
+
+  period-there : FixedWithin (active-of (take (ask-width * whole-level .level-of .result) (all whole-level)) first) 1 first
+  period-there =
+      let s = packed whole-level in
+      period-exists (s .pre) _ (some s) (all-asking whole-level) asks-runs
 
 -- ---- the row in hand
 module _ (h : Under tie.After-leave-out) where
@@ -129,8 +142,11 @@ module _ (h : Under tie.After-leave-out) where
   abbrev A : Under tie.After-active-period
   A = rows .before
 
+  abbrev F : Under tie.After-runs-of
+  F = A .before .before
+
   abbrev W : Under tie.After-level-of
-  W = A .before .before .before .before .before
+  W = whole-level F
 
   abbrev S : Under tie.Start
   S = packed W
@@ -156,17 +172,13 @@ module _ (h : Under tie.After-leave-out) where
   inside = S .pre .inside i unplaced
 
   active : Active (tb S) P (b S) i L
-  active = period-found (S .pre) i unplaced (all-asking W) (A .active-period .ensures)
+  active = period-found (S .pre) i unplaced (all-asking W) (asks-runs F) (A .active-period .ensures)
 
   short : L ≤ horizon
   short = period-within (S .pre) i unplaced active
 
-  -- what the level asks for in the first tick
-  abbrev least : ℕ
-  least = A .before .before .active-side .result
-
-  least-is : least ≡ active-side (tb S) P (b S) i 1
-  least-is = A .before .before .active-side .ensures ∙ period-first (S .pre) i unplaced (all-asking W)
+  first-is : first F ≡ active-side (tb S) P (b S) i 1
+  first-is = period-first (S .pre) i unplaced (all-asking W) (asks-runs F)
 
   -- the level that the others are left in: of all rows but the one in hand, whose place the last one takes
   abbrev last : ℕ
@@ -307,8 +319,15 @@ module _ (c : Under tie.At-loop) where
   turned : start-of (take (ask-width * last (R I)) (level (R I))) (c .before .base-of .result) (c .loop .s) ≡ side
   turned =
       let h = R I in
-      start-of-is (asking h) (b (S h)) (i h) (q I) (J .jobs .k) (c .before .base-of .ensures) (c .loop .s)
+      let w = working I in
+      let k = J .jobs .k in
+      let z : suc (k - 1) ≡ k = omega (arith, J .jobs .inv .low) in
+      let based : c .before .base-of .result
+          ≡ active-side (tb (S h)) (P h) (b (S h)) (i h) 1 + (k - 1) * tb (S h) .C (i h) - q I =
+      omega (arith, c .before .base-of .ensures, first-is h) in
+      start-of-is (asking h) (w .positive) (b (S h)) (i h) (q I) (k - 1) (w .row) (w .most) based (c .loop .s)
       (omega (arith, within))
+      ∙ ap (λ n. start-side (tb (S h)) (P h) (b (S h)) (i h) upto (q I) n (c .loop .s)) z
 
 -- ---- where a value repeats
 module _ (c : Under tie.Then2) where
@@ -381,19 +400,11 @@ module _ (c : Under tie.After-lengths) where
 level-of-requires : Under tie.Need-level-of-requires
 level-of-requires c κs = let p = c .before .before .pre in (p .sound .few, p .inside, refl)
 
-active-side-requires : Under tie.Need-active-side-requires
-active-side-requires c κs =
-    let w = c .before .before in
-    let x = period-exists (packed w .pre) _ (some (packed w)) (all-asking w) in
-    (all-asking w .small, omega arith, omega arith, omega (arith, x .under, x .within))
+runs-of-requires : Under tie.Need-runs-of-requires
+runs-of-requires c κs = all-asking (c .before .before) .small
 
 active-period-requires : Under tie.Need-active-period-requires
-active-period-requires c κs =
-    let w = c .before .before .before .before in
-    let s = packed w in (
-      all-asking w .small,
-      rw (c .before .active-side .ensures) (period-exists (s .pre) _ (some s) (all-asking w)),
-    )
+active-period-requires c κs = let f = c .before in (all-asking (whole-level f) .small, period-there f)
 
 rows-holds : Under tie.Need-rows-holds
 rows-holds c = (seen-first _ _ _ _, refl)
@@ -404,7 +415,7 @@ module _ (c : Under tie.After-place) where
   at-hand = c .before .before .before .before
 
   abbrev W₀ : Under tie.After-level-of
-  W₀ = at-hand .before .before .before .before .before .before
+  W₀ = whole-level (at-hand .before .before .before)
 
   place-fits : c .place .result < W₀ .level-of .result
   place-fits =
@@ -428,7 +439,7 @@ lengths-holds : Under tie.Need-lengths-holds
 lengths-holds c = (narrowed-first _ _ _ _ _, search needs)
 
 jobs-holds : Under tie.Need-jobs-holds
-jobs-holds c = trial-first (working c) (least (R c)) (least-is (R c))
+jobs-holds c = trial-first (working c) (first (F (R c))) (first-is (R c))
 
 loop-holds : Under tie.Need-loop-holds
 loop-holds c = c .before .before .jobs .inv
@@ -443,7 +454,13 @@ base-of-requires c κs =
     let x = c .before .before in
     let h = R x in
     let t = c .before .jobs .inv in
-    (runs h .high, working x .most, t .low, omega (arith, base-within (working x) _ (t .low) (t .high), short h))
+    let counts : c .before .jobs .k - 1 < jobs (tb (S h)) (P h) (b (S h)) (i h) (L h) = omega (arith, t .low, t .high) in
+    let w = working x in
+    let e = first-is h in (
+      omega (arith, w .most, runs h .high),
+      omega (arith, length-first w),
+      omega (arith, base-within w (c .before .jobs .k - 1) counts, short h),
+    )
 
 start-side-requires : Under tie.Need-start-side-requires
 start-side-requires c κs =
@@ -529,7 +546,8 @@ returns-2 c =
 pub choose-spec : {M : Type 1} → statement M
 choose-spec = tie.close (tie.spec Inv-loop μ-loop Inv-jobs μ-jobs Inv-lengths μ-lengths Inv-rows μ-rows (λ c. refl)
     level-of-requires (λ c. omega (arith, c .before .level-of .ensures .few)) (λ c. all-fits (c .before))
-    (λ c. sym (length-take-le _ _ (all-fits (c .before .before)))) active-side-requires
+    (λ c. sym (length-take-le _ _ (all-fits (c .before .before)))) runs-of-requires
+    (λ c. let w = period-there c in omega (arith, w .under, w .within))
     (λ c. omega (arith, c .before .before .before .level-of .ensures .few))
     (λ c. all-fits (c .before .before .before))
     (λ c. sym (length-take-le _ _ (all-fits (c .before .before .before .before)))) active-period-requires rows-holds
@@ -540,8 +558,8 @@ choose-spec = tie.close (tie.spec Inv-loop μ-loop Inv-jobs μ-jobs Inv-lengths 
     (λ c. omega (arith, N (c .before) .next .ensures .inside))
     (λ c. N (c .before) .next .ensures .inside)
     (λ c κs. search needs) (λ c. omega (arith, top-run c, runs (H c) .high)) lengths-holds
-    (λ c. omega (arith, length-first (working c), least-is (R c))) jobs-holds (λ c. c .jobs .inv .low)
-    (λ c. omega (arith, released c)) add-due base-of-requires loop-holds
+    (λ c. omega (arith, length-first (working c), first-is (R c))) jobs-holds (λ c. c .jobs .inv .low)
+    (λ c. omega (arith, released c)) add-due (λ c. c .before .jobs .inv .low) base-of-requires loop-holds
     (λ c. omega (arith, within c)) (λ c. omega (arith, place-fits (R (I (c .before)) .before .before)))
     (λ c. omega (arith, W (R (I (c .before))) .level-of .ensures .few))
     (λ c. fits (R (I (c .before)))) (λ c. sym (length-take-le _ _ (fits (R (I (c .before .before))))))

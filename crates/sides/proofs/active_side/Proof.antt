@@ -7,4 +7,4 @@ use Rattle.sides.proofs.active_side.Tie as tie
 pub active-side-spec : {M : Type 1} → statement M
 active-side-spec = tie.close (tie.spec
     (λ c κs. let p = c .before .pre in (p .0, p .1, omega (arith, p .2), omega (arith, p .3)))
-    (λ c. omega (arith, c .load .ensures, c .before .before .pre .3)) (λ c. search needs))
+    (λ c. omega (arith, c .later .ensures, c .before .before .pre .3)) (λ c. search needs))

@@ -12,24 +12,27 @@ use Rattle.sides.specs.inside.Asks.{ask-width, scale, inverse-of, many, 
 abbrev pub put : List ℕ → ℕ → ℕ → ℕ → List ℕ
 put l p c i = set (set l (ask-width * p) c) (ask-width * p + 1) i
 
--- what row p of a level asks for by its releases at s or before
+-- what the rows of a level ask for in the first tick, each its run; and what row p, and all rows, ask for by their
+-- releases after it, up to s
+unfoldable pub runs-of : List ℕ → ℕ
+runs-of level = sum (run level) (many level)
+
 abbrev pub part-of : List ℕ → ℕ → ℕ → ℕ
-part-of level s p = (s * inverse level p / scale + 1) * run level p
+part-of level s p = s * inverse level p / scale * run level p
 
--- and what all its rows ask for
-unfoldable pub asked : List ℕ → ℕ → ℕ
-asked level s = sum (part-of level s) (many level)
+unfoldable pub later : List ℕ → ℕ → ℕ
+later level s = sum (part-of level s) (many level)
 
--- the right sides: of the busy period, of the active period with blocking b, and of a start, beside which a base
--- stands that does not depend on s
+-- the right sides: of the busy period, of the active period where blocking and level ask for `first` in the first tick,
+-- and of a start, beside which a base stands that does not depend on s
 abbrev pub busy-of : List ℕ → ℕ → ℕ
-busy-of level t = asked level (t - 1)
+busy-of level t = runs-of level + later level (t - 1)
 
 abbrev pub active-of : List ℕ → ℕ → ℕ → ℕ
-active-of level b t = b + asked level (t - 1)
+active-of level first t = first + later level (t - 1)
 
 abbrev pub start-of : List ℕ → ℕ → ℕ → ℕ
-start-of level base s = base + asked level s
+start-of level base s = base + later level s
 
 -- the rows are no more than a table has, and their numbers no larger
 pub record Small (level : List ℕ) : Type 0 where

@@ -11,10 +11,10 @@ use Rattle.sides.proofs.periods.active_period.Statement.{statement}
 use Rattle.sides.proofs.periods.active_period.Tie as tie
 
 abbrev Inv-loop : tie.InvT-loop
-Inv-loop level b low t₀ t = Climbing (active-of level b) 1 t × (t ≤ horizon)
+Inv-loop level first t₀ t = Climbing (active-of level first) 1 t × (t ≤ horizon)
 
 abbrev μ-loop : tie.MeasureT-loop
-μ-loop level b low t₀ t = horizon + 1 - t
+μ-loop level first t₀ t = horizon + 1 - t
 
 loop-holds : tie.Need-loop-holds Inv-loop μ-loop
 loop-holds c = reached-first (active-of-mono _ _) (c .before .pre .1)

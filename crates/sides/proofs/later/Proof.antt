@@ -1,14 +1,16 @@
--- `load` meets its contract: the sum over the rows passed, which is never more than that over all.
+-- `later` meets its contract: the sum over the rows passed, which is never more than that over all.
 use Prim.Native.Nat.{_+_, _-_, _≤_}
 use native.Mathlib.Omega.{arith}
 use borrow.Author.Needs.{needs}
 use Rattle.test.specs.Test.{horizon}
+use Rattle.sides.specs.inside.Asks.{many}
+use Rattle.sides.specs.inside.Level.{part-of, later}
 use Rattle.sides.proofs.Summed.{Summed, summed-none, summed-within, summed-more, summed-all}
-use Rattle.sides.proofs.load.Statement.{statement}
-use Rattle.sides.proofs.load.Tie as tie
+use Rattle.sides.proofs.later.Statement.{statement}
+use Rattle.sides.proofs.later.Tie as tie
 
 abbrev Inv-loop : tie.InvT-loop
-Inv-loop level t s rows sum₀ p₀ total p = Summed level s total p
+Inv-loop level t s rows sum₀ p₀ total p = Summed (part-of level s) (many level) total p
 
 abbrev μ-loop : tie.MeasureT-loop
 μ-loop level t s rows sum₀ p₀ total p = rows - p
@@ -19,6 +21,7 @@ module _ (c : tie.After-part Inv-loop μ-loop) where
   l = c .before
 
   within : l .before .loop .sum + c .part .result ≤ horizon
+  unfolding later
   within = omega (
     arith,
     summed-within (l .before .loop .inv) (l .loop-test .taken) (c .part .ensures),
@@ -33,7 +36,11 @@ part-requires c κs =
 loop-again : tie.Need-loop-again Inv-loop μ-loop
 loop-again c = summed-more (l c .before .loop .inv) (l c .loop-test .taken) (c .part .ensures)
 
-pub load-spec : {M : Type 1} → statement M
-load-spec = tie.close (tie.spec Inv-loop μ-loop (λ c. c .before .pre .1) (λ c. search needs) (λ c. summed-none)
+returns : tie.Need-returns Inv-loop μ-loop
+unfolding later
+returns c = summed-all (c .before .loop .inv) (c .loop-test .left)
+
+pub later-spec : {M : Type 1} → statement M
+later-spec = tie.close (tie.spec Inv-loop μ-loop (λ c. c .before .pre .1) (λ c. search needs) (λ c. summed-none)
     part-requires (λ c. omega (arith, within c)) (λ c. omega (arith, within c)) (λ c. search needs) (λ c. search needs)
-    loop-again (λ c. summed-all (c .before .loop .inv) (c .loop-test .left)))
+    loop-again returns)
