@@ -5,6 +5,7 @@ ghost use Rattle.test.specs.Test.{BusyWithin};
 ghost use Rattle.sides.specs.inside.Asks.{Asks};
 ghost use Rattle.plan.specs.inside.Ended.{Ended};
 use search::Pick;
+use sides::ASK_WIDTH;
 use tables::MOST_ROWS;
 use tables::PLAN_WIDTH;
 use tables::Row;
@@ -24,11 +25,12 @@ pub fn fill(rows: [Row; 32], n: usize, asks: &[u64]) -> Filling
 {
     let mut plan = [0u32; PLAN_WIDTH * MOST_ROWS];
     let mut times = [0u32; 32];
+    let mut level = [0u64; ASK_WIDTH * MOST_ROWS];
     let mut unplaced = marks::whole(n as u32);
     let mut blocking: u32 = 0;
     while unplaced != 0 {
         let rank = marks::size(unplaced);
-        let pick = search::choose(rows, asks, unplaced, unplaced, blocking);
+        let pick = search::choose(rows, asks, &mut level, unplaced, unplaced, blocking);
         let Pick::Taken(row, len, response) = pick else {
             return Filling {
                 stopped: rank,

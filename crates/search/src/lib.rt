@@ -1,13 +1,13 @@
 // The search for one rank: the unplaced row with the least shortest passing length, the earliest among equals.
 ghost use mathlib.Core.Path.{_≡_};
-ghost use Prim.Native.Nat.{_+_, _-_, min, _≤_, _<_};
+ghost use Prim.Native.Nat.{_+_, _-_, _*_, min, _≤_, _<_};
+ghost use lib.ListN.{length};
 ghost use Rattle.marks.specs.inside.Marks.{marked};
-ghost use Rattle.tables.specs.Table.{most};
+ghost use Rattle.tables.specs.Table.{most, most-rows};
 ghost use Rattle.tables.specs.inside.Rows.{tableIn};
-ghost use Rattle.sides.specs.inside.Asks.{many};
+ghost use Rattle.sides.specs.inside.Asks.{ask-width, many};
 ghost use Rattle.search.specs.inside.Choose.{Searchable, Picked};
 use sides::ASK_WIDTH;
-use tables::MOST_ROWS;
 use tables::Row;
 
 // The row that takes the rank, with its length and its response; or nothing, where no row has a passing length.
@@ -41,14 +41,15 @@ fn next_length(low: u32, high: u32, cap: u32) -> u32
     low + (high - low) / 2
 }
 
-// The rows to try are given beside the unplaced ones. The active period, and what is asked for in its first tick, are
-// the same for every row of the level. No row is tried after one that takes the rank with length 1.
-pub fn choose(rows: [Row; 32], asks: &[u64], unplaced: u32, tried: u32, blocking: u32) -> Pick
-    requires { ⌜ Searchable (tableIn rows (many (now asks))) (now asks) unplaced tried blocking ⌝ }
+// The rows to try are given beside the unplaced ones, and room for their level is lent. The active period, and what is
+// asked for in its first tick, are the same for every row of the level. No row is tried after one that takes the rank
+// with length 1.
+pub fn choose(rows: [Row; 32], asks: &[u64], level: &mut [u64], unplaced: u32, tried: u32, blocking: u32) -> Pick
+    requires { ⌜ Searchable (tableIn rows (many (now asks))) (now asks) unplaced tried blocking
+        × (length (now level) ≡ ask-width * most-rows) ⌝ }
     ensures { λ r. ⌜ Picked (tableIn rows (many (now (asks .entry)))) (marked unplaced) blocking (marked tried) r ⌝ }
 {
-    let mut level = [0u64; ASK_WIDTH * MOST_ROWS];
-    let all = sides::level_of(asks, unplaced, &mut level);
+    let all = sides::level_of(asks, unplaced, level);
     let first = blocking + sides::runs_of(&level[..ASK_WIDTH * all]);
     let period = sides::periods::active_period(&level[..ASK_WIDTH * all], first);
     let mut row: u32 = 0;
@@ -60,7 +61,7 @@ pub fn choose(rows: [Row; 32], asks: &[u64], unplaced: u32, tried: u32, blocking
         rest = marks::less(rest, i);
         // The others stand above it while it is tried: in the level the last one takes its place.
         let at = marks::place(unplaced, i) as usize;
-        sides::leave_out(&mut level, all, at);
+        sides::leave_out(level, all, at);
         let own = rows[i as usize];
         let c = own.c;
         let t = own.t;
@@ -108,7 +109,7 @@ pub fn choose(rows: [Row; 32], asks: &[u64], unplaced: u32, tried: u32, blocking
             }
             len = next_length(low, high, cap);
         }
-        sides::put_back(&mut level, at, asks, i as usize);
+        sides::put_back(level, at, asks, i as usize);
         if high <= cap {
             row = i;
             best = high;

@@ -42,40 +42,40 @@ use Rattle.search.proofs.choose.Statement.{statement}
 use Rattle.search.proofs.choose.Tie as tie
 
 abbrev Inv-loop : tie.InvT-loop
-Inv-loop asks unplaced tried b rows level all first period row best response rest i at own c t cap low
+Inv-loop asks level unplaced tried b rows all first period row best response rest i at own c t cap low
     high time len k largest s₀ released due base s =
     Trial (tableIn rows (many asks)) (without (marked unplaced) i) b i len period k s largest
 
 abbrev μ-loop : tie.MeasureT-loop
-μ-loop asks unplaced tried b rows level all first period row best response rest i at own c t cap low
+μ-loop asks level unplaced tried b rows all first period row best response rest i at own c t cap low
     high time len k largest s₀ released due base s = horizon + 1 - s
 
 abbrev Inv-jobs : tie.InvT-jobs
-Inv-jobs asks unplaced tried b rows level all first period row best response rest i at own c t cap low
+Inv-jobs asks level unplaced tried b rows all first period row best response rest i at own c t cap low
     high time len k₀ largest₀ s₀ k largest s =
     Trial (tableIn rows (many asks)) (without (marked unplaced) i) b i len period k s largest
 
 abbrev μ-jobs : tie.MeasureT-jobs
-μ-jobs asks unplaced tried b rows level all first period row best response rest i at own c t cap low
+μ-jobs asks level unplaced tried b rows all first period row best response rest i at own c t cap low
     high time len k₀ largest₀ s₀ k largest s =
     jobs (tableIn rows (many asks)) (without (marked unplaced) i) b i period + 1 - k
 
 abbrev Inv-lengths : tie.InvT-lengths
-Inv-lengths asks unplaced tried b rows level all first period row best response rest i at own c t cap low₀
+Inv-lengths asks level unplaced tried b rows all first period row best response rest i at own c t cap low₀
     high₀ time₀ len₀ low high time len =
     Narrowed (tableIn rows (many asks)) (without (marked unplaced) i) b i cap low high time
     × (low < high → (low ≤ len) × (len < high))
 
 abbrev μ-lengths : tie.MeasureT-lengths
-μ-lengths asks unplaced tried b rows level all first period row best response rest i at own c t cap low₀
+μ-lengths asks level unplaced tried b rows all first period row best response rest i at own c t cap low₀
     high₀ time₀ len₀ low high time len = high - low
 
 abbrev Inv-rows : tie.InvT-rows
-Inv-rows asks unplaced tried b rows level₀ all first period row₀ best₀ response₀ rest₀ level row best response rest =
+Inv-rows asks level₀ unplaced tried b rows all first period row₀ best₀ response₀ rest₀ level row best response rest =
     Seen (tableIn rows (many asks)) (marked unplaced) b (marked tried) row best response rest × (level ≡ level₀)
 
 abbrev μ-rows : tie.MeasureT-rows
-μ-rows asks unplaced tried b rows level₀ all first period row₀ best₀ response₀ rest₀ level row best response rest =
+μ-rows asks level₀ unplaced tried b rows all first period row₀ best₀ response₀ rest₀ level row best response rest =
     rest
 
 -- a place, or a need, under these invariants
@@ -96,29 +96,29 @@ module _ (s : Under tie.Start) where
 
   -- it has a row
   some : U (trailingZeros 32 (s .args .unplaced)) ≡ true
-  some = next-by-zeros (s .args .unplaced) (s .pre .some) (s .fits .unplaced .fits) .first .holds
+  some = next-by-zeros (s .args .unplaced) (s .pre .0 .some) (s .fits .unplaced .fits) .first .holds
 
 -- ---- the level, packed
 module _ (w : Under tie.After-level-of) where
   abbrev packed : Under tie.Start
-  packed = w .before .before .before
+  packed = w .before .before .before .before
 
   abbrev all : List ℕ
   all = w .level-of .last .1 .1 .0
 
   all-whole : length all ≡ ask-width * most-rows
-  all-whole = w .level-of .kept .1 .1 .0
+  all-whole = w .level-of .kept .1 .1 .0 ∙ packed .pre .1
 
   all-fits : ask-width * w .level-of .result ≤ length all
   all-fits = omega (arith, w .level-of .ensures .few, all-whole)
 
   all-asking : Asking (tb packed) (U packed) (take (ask-width * w .level-of .result) all)
-  all-asking = asking-packed (packed .pre .sound) (packed .pre .asked) all-whole (w .level-of .ensures)
+  all-asking = asking-packed (packed .pre .0 .sound) (packed .pre .0 .asked) all-whole (w .level-of .ensures)
 
 -- ---- what it asks for in the first tick
 module _ (f : Under tie.After-runs-of) where
   abbrev whole-level : Under tie.After-level-of
-  whole-level = f .before .before .before
+  whole-level = f .before .before .before .before
 
   abbrev first : ℕ
   first = b (packed whole-level) + f .runs-of .result
@@ -129,7 +129,7 @@ module _ (f : Under tie.After-runs-of) where
   period-there : FixedWithin (active-of (take (ask-width * whole-level .level-of .result) (all whole-level)) first) 1 first
   period-there =
       let s = packed whole-level in
-      period-exists (s .pre) _ (some s) (all-asking whole-level) asks-runs
+      period-exists (s .pre .0) _ (some s) (all-asking whole-level) asks-runs
 
 -- ---- the row in hand
 module _ (h : Under tie.After-leave-out) where
@@ -166,19 +166,19 @@ module _ (h : Under tie.After-leave-out) where
   P = without (U S) i
 
   unplaced : U S i ≡ true
-  unplaced = S .pre .among i (rows .rows .inv .0 .among i (N .next .ensures .first .holds))
+  unplaced = S .pre .0 .among i (rows .rows .inv .0 .among i (N .next .ensures .first .holds))
 
   inside : i < tb S .n
-  inside = S .pre .inside i unplaced
+  inside = S .pre .0 .inside i unplaced
 
   active : Active (tb S) P (b S) i L
-  active = period-found (S .pre) i unplaced (all-asking W) (asks-runs F) (A .active-period .ensures)
+  active = period-found (S .pre .0) i unplaced (all-asking W) (asks-runs F) (A .active-period .ensures)
 
   short : L ≤ horizon
-  short = period-within (S .pre) i unplaced active
+  short = period-within (S .pre .0) i unplaced active
 
   first-is : first F ≡ active-side (tb S) P (b S) i 1
-  first-is = period-first (S .pre) i unplaced (all-asking W) (asks-runs F)
+  first-is = period-first (S .pre .0) i unplaced (all-asking W) (asks-runs F)
 
   -- the level that the others are left in: of all rows but the one in hand, whose place the last one takes
   abbrev last : ℕ
@@ -199,20 +199,20 @@ module _ (h : Under tie.After-leave-out) where
 
   asking : Asking (tb S) P (take (ask-width * last) level)
   asking =
-      asking-held (S .pre .sound) (S .pre .asked) whole
+      asking-held (S .pre .0 .sound) (S .pre .0 .asked) whole
       (subst (λ l. Holding (S .args .asks .now) P l last) (sym left-is)
       (left-holding (W .level-of .ensures) (all-whole W) i inside unplaced))
 
   runs : Within (tb S .C i)
-  runs = S .pre .sound .row i inside .C
+  runs = S .pre .0 .sound .row i inside .C
 
   spaced : Within (tb S .T i)
-  spaced = S .pre .sound .row i inside .T
+  spaced = S .pre .0 .sound .row i inside .T
 
 -- ---- its longest length worth a try
 module _ (c : Under tie.After-cap-of) where
   abbrev H : Under tie.After-leave-out
-  H = c .before .before .before
+  H = c .before .before .before .before
 
   abbrev top : ℕ
   top = c .cap-of .result
@@ -244,7 +244,7 @@ module _ (c : Under tie.In-lengths) where
   working =
       let w = c .before .lengths .inv .0 in
       record {
-        positive = positive (S R .pre);
+        positive = positive (S R .pre .0);
         row = inside R;
         some = omega (arith, w .some, between .0);
         most = cap-run (tb (S R)) (i R) short-enough;
@@ -398,10 +398,10 @@ module _ (c : Under tie.After-lengths) where
       (worth K) (c .before .lengths .inv .0) (c .lengths-test .left)
 
 level-of-requires : Under tie.Need-level-of-requires
-level-of-requires c κs = let p = c .before .before .pre in (p .sound .few, p .inside, refl)
+level-of-requires c κs = let p = c .before .before .before .pre in (p .0 .sound .few, p .0 .inside, p .1)
 
 runs-of-requires : Under tie.Need-runs-of-requires
-runs-of-requires c κs = all-asking (c .before .before) .small
+runs-of-requires c κs = all-asking (c .before .before .before) .small
 
 active-period-requires : Under tie.Need-active-period-requires
 active-period-requires c κs = let f = c .before in (all-asking (whole-level f) .small, period-there f)
@@ -420,11 +420,11 @@ module _ (c : Under tie.After-place) where
   place-fits : c .place .result < W₀ .level-of .result
   place-fits =
       let s = packed W₀ in
-      let u = s .pre .among _ (at-hand .rows .inv .0 .among _ (c .before .before .next .ensures .first .holds)) in
+      let u = s .pre .0 .among _ (at-hand .rows .inv .0 .among _ (c .before .before .next .ensures .first .holds)) in
       omega (
         arith,
         c .place .ensures,
-        place-inside (W₀ .level-of .ensures) (all-whole W₀) _ (s .pre .inside _ u) u,
+        place-inside (W₀ .level-of .ensures) (all-whole W₀) _ (s .pre .0 .inside _ u) u,
       )
 
   level-whole : length (at-hand .rows .level) ≡ ask-width * most-rows
@@ -447,7 +447,7 @@ loop-holds c = c .before .before .jobs .inv
 add-due : Under tie.Need-add-due
 add-due c =
     let h = R (c .before .before) in
-    omega (arith, released (c .before), S h .pre .sound .row (i h) (inside h) .D .high)
+    omega (arith, released (c .before), S h .pre .0 .sound .row (i h) (inside h) .D .high)
 
 base-of-requires : Under tie.Need-base-of-requires
 base-of-requires c κs =
@@ -520,19 +520,24 @@ put-back-requires c κs =
       omega (arith, place-fits (h .before .before), W h .level-of .ensures .few),
       whole h,
       inside h,
-      S h .pre .sound .few,
+      S h .pre .0 .sound .few,
     )
 
 rows-again : Under tie.Need-rows-again
 rows-again c =
-    let p = c .before .before .before in
+    let p = c .before .before .before .before in
     (seen-one (c .if6 .taken) (better (D p) (c .before .if5 .taken)), back p)
 
 rows-again-2 : Under tie.Need-rows-again-2
-rows-again-2 c = let p = c .before .before .before in (better (D p) (c .before .if5 .taken), back p)
+rows-again-2 c = let p = c .before .before .before .before in (better (D p) (c .before .if5 .taken), back p)
 
 rows-again-3 : Under tie.Need-rows-again-3
-rows-again-3 c = let p = c .before .before in (unchanged (D p) (c .if5 .left), back p)
+rows-again-3 c = let p = c .before .before .before in (unchanged (D p) (c .if5 .left), back p)
+
+-- ---- where the rows are left, the level has its length still
+as-lent : (r : Under tie.At-rows) → let w = whole-level (r .before .before .before) in
+    length (r .rows .level) ≡ length (packed w .args .level .now)
+as-lent r = ap length (r .rows .inv .1) ∙ whole-level (r .before .before .before) .level-of .kept .1 .1 .0
 
 returns : Under tie.Need-returns
 returns c = seen-none (c .before .before .rows .inv .0) (c .before .rows-test .left) (c .if7 .taken)
@@ -544,19 +549,17 @@ returns-2 c =
     (seen-all w (c .before .rows-test .left) some, w .timed some)
 
 pub choose-spec : {M : Type 1} → statement M
-choose-spec = tie.close (tie.spec Inv-loop μ-loop Inv-jobs μ-jobs Inv-lengths μ-lengths Inv-rows μ-rows (λ c. refl)
-    level-of-requires (λ c. omega (arith, c .before .level-of .ensures .few)) (λ c. all-fits (c .before))
-    (λ c. sym (length-take-le _ _ (all-fits (c .before .before)))) runs-of-requires
-    (λ c. let w = period-there c in omega (arith, w .under, w .within))
-    (λ c. omega (arith, c .before .before .before .level-of .ensures .few))
-    (λ c. all-fits (c .before .before .before))
-    (λ c. sym (length-take-le _ _ (all-fits (c .before .before .before .before)))) active-period-requires rows-holds
+choose-spec = tie.close (tie.spec Inv-loop μ-loop Inv-jobs μ-jobs Inv-lengths μ-lengths Inv-rows μ-rows
+    level-of-requires (λ c. omega (arith, c .before .before .level-of .ensures .few))
+    (λ c. all-fits (c .before .before)) (λ c. sym (length-take-le _ _ (all-fits (c .before .before .before))))
+    runs-of-requires (λ c. let w = period-there c in omega (arith, w .under, w .within))
+    (λ c. omega (arith, whole-level c .level-of .ensures .few)) (λ c. all-fits (whole-level c))
+    (λ c. sym (length-take-le _ _ (all-fits (whole-level (c .before))))) active-period-requires rows-holds
     (λ c κs. pos-of-ne-zero (c .rows-test .taken))
     (λ c κs. (c .next .ensures .inside, c .next .ensures .first .holds))
-    (λ c κs. c .before .next .ensures .inside) (λ c. search needs) (λ c. sym (level-whole (c .before)))
-    leave-out-requires (λ c. search needs)
-    (λ c. omega (arith, N (c .before) .next .ensures .inside))
-    (λ c. N (c .before) .next .ensures .inside)
+    (λ c κs. c .before .next .ensures .inside) (λ c. search needs) leave-out-requires (λ c. search needs)
+    (λ c. omega (arith, N (c .before .before) .next .ensures .inside))
+    (λ c. N (c .before .before) .next .ensures .inside)
     (λ c κs. search needs) (λ c. omega (arith, top-run c, runs (H c) .high)) lengths-holds
     (λ c. omega (arith, length-first (working c), first-is (R c))) jobs-holds (λ c. c .jobs .inv .low)
     (λ c. omega (arith, released c)) add-due (λ c. c .before .jobs .inv .low) base-of-requires loop-holds
@@ -569,7 +572,8 @@ choose-spec = tie.close (tie.spec Inv-loop μ-loop Inv-jobs μ-jobs Inv-lengths 
     (λ c. omega (arith, job-few (J (E (c .before .before)))))
     (λ c. let a = E (c .before .before) in omega (arith, within a, runs (R (I a)) .high)) jobs-less jobs-again
     (λ c. let x = I (c .before .before) in omega (arith, working x .most, runs (R x) .high)) next-length-requires
-    lengths-less lengths-again (λ c. sym (whole (G (c .before)))) (λ c. search needs) put-back-requires
-    (λ c. pos-of-ne-zero (N (G (D (c .before .before .before))) .before .rows-test .taken)) rows-again
-    (λ c. left (G (D (c .before .before .before))) .less .ensures .smaller) rows-again-2
-    (λ c. left (G (D (c .before .before))) .less .ensures .smaller) rows-again-3 returns returns-2)
+    lengths-less lengths-again (λ c. search needs) put-back-requires
+    (λ c. pos-of-ne-zero (N (G (D (c .before .before .before .before))) .before .rows-test .taken)) rows-again
+    (λ c. left (G (D (c .before .before .before .before))) .less .ensures .smaller) rows-again-2
+    (λ c. left (G (D (c .before .before .before))) .less .ensures .smaller) rows-again-3
+    (λ c. as-lent (c .before .before)) returns (λ c. as-lent (c .before .before)) returns-2)

@@ -1,15 +1,16 @@
 -- `fill` meets its contract: each turn places the row that takes the rank, and the rank is the number of rows left.
-use Prim.Native.Nat.{ℕ, _<_}
-use mathlib.Core.Path.{_≡_, sym, subst}
+use Prim.Native.Nat.{ℕ, _*_, _<_}
+use mathlib.Core.Path.{_≡_, refl, sym, _∙_, subst}
 use native.Mathlib.Nat.{pos-of-ne-zero}
 use native.Mathlib.Omega.{arith}
+use lib.ListN.{length}
 use borrow.Author.Needs.{needs}
 use Rattle.marks.specs.inside.Marks.{marked}
 use Rattle.marks.proofs.Marks.{count-something}
 use Rattle.tables.specs.Table.{Table, most-rows}
 use Rattle.tables.specs.inside.Rows.{tableIn}
 use Rattle.test.proofs.Load.{Positive, sound-positive}
-use Rattle.sides.specs.inside.Asks.{many}
+use Rattle.sides.specs.inside.Asks.{ask-width, many}
 use Rattle.search.specs.inside.Choose.{Searchable, Picked}
 use Rattle.search.specs.declared.Pick.{Pick}
 use Rattle.search.specs.declared.Pick.the-variants.{Taken}
@@ -18,11 +19,11 @@ use Rattle.plan.proofs.filling.fill.Statement.{statement}
 use Rattle.plan.proofs.filling.fill.Tie as tie
 
 abbrev Inv-loop : tie.InvT-loop
-Inv-loop rows n asks plan₀ times₀ unplaced₀ blocking₀ plan times unplaced blocking =
-    Going (tableIn rows n) plan times unplaced blocking
+Inv-loop rows n asks plan₀ times₀ level₀ unplaced₀ blocking₀ plan times level unplaced blocking =
+    Going (tableIn rows n) plan times unplaced blocking × (length level ≡ ask-width * most-rows)
 
 abbrev μ-loop : tie.MeasureT-loop
-μ-loop rows n asks plan₀ times₀ unplaced₀ blocking₀ plan times unplaced blocking = unplaced
+μ-loop rows n asks plan₀ times₀ level₀ unplaced₀ blocking₀ plan times level unplaced blocking = unplaced
 
 -- ---- the level that is searched
 module _ (c : tie.At-loop Inv-loop μ-loop) where
@@ -49,19 +50,19 @@ module _ (c : tie.At-loop Inv-loop μ-loop) where
   pos = sound-positive tb (B .pre .0)
 
 -- ---- what the search answers
-chose : (c : tie.After-choose Inv-loop μ-loop) → Picks (c .before .before .before) (c .choose .result)
+chose : (c : tie.After-choose Inv-loop μ-loop) → Picks (c .before .before .before .before) (c .choose .result)
 chose c =
-    let a = c .before .before .before in
+    let a = c .before .before .before .before in
     subst (λ m. Picked (table a m) (marked (U a)) (a .loop .blocking) (marked (U a)) (c .choose .result)) (rows a)
     (c .choose .ensures)
 
 -- ---- the row that takes the rank
 module _ (c : tie.After-known-told Inv-loop μ-loop) where
   abbrev S : tie.After-choose Inv-loop μ-loop
-  S = c .before .before .before
+  S = c .before .before .before .before
 
   abbrev A : tie.At-loop Inv-loop μ-loop
-  A = S .before .before .before
+  A = S .before .before .before .before
 
   abbrev y : ℕ
   y = c .before .pick .given .0 .0
@@ -73,44 +74,49 @@ module _ (c : tie.After-known-told Inv-loop μ-loop) where
   inside = omega (arith, picked .0 .row, B A .pre .0 .few)
 
 loop-holds : tie.Need-loop-holds Inv-loop μ-loop
-loop-holds c = going-first _ (c .before .before .pre .0) (c .whole .result) (c .whole .ensures)
+loop-holds c = (going-first _ (c .before .before .pre .0) (c .whole .result) (c .whole .ensures), refl)
 
 choose-requires : tie.Need-choose-requires Inv-loop μ-loop
 choose-requires c κs =
-    let a = c .before .before in
-    let s = B a in
-    subst (λ m. Searchable (table a m) (s .args .asks .now) (U a) (U a) (a .loop .blocking)) (sym (rows a))
-    (record {
-      sound = s .pre .0;
-      asked = s .pre .2;
-      inside = a .loop .inv .inside;
-      some = pos-of-ne-zero (c .before .loop-test .taken);
-      among = λ j e. e;
-      busy = s .pre .1;
-      room = going-room (tb a) (pos a) (a .loop .inv);
-    })
+    let a = c .before .before .before in
+    let s = B a in (
+      subst (λ m. Searchable (table a m) (s .args .asks .now) (U a) (U a) (a .loop .blocking)) (sym (rows a))
+          (record {
+            sound = s .pre .0;
+            asked = s .pre .2;
+            inside = a .loop .inv .0 .inside;
+            some = pos-of-ne-zero (c .before .before .loop-test .taken);
+            among = λ j e. e;
+            busy = s .pre .1;
+            room = going-room (tb a) (pos a) (a .loop .inv .0);
+          }),
+      a .loop .inv .1,
+    )
 
 returns : tie.Need-returns Inv-loop μ-loop
 returns c =
-    let d = c .before .before in
-    let a = d .before .before .before in
-    going-stops (tb a) (pos a) (a .loop .inv) (d .before .size .ensures)
-    (count-something (U a) most-rows (pos-of-ne-zero (d .before .before .loop-test .taken))
-    (λ j m. omega (arith, a .loop .inv .inside j m, B a .pre .0 .few)))
+    let d = c .before .before .before in
+    let a = d .before .before .before .before in
+    going-stops (tb a) (pos a) (a .loop .inv .0) (d .before .before .size .ensures)
+    (count-something (U a) most-rows (pos-of-ne-zero (d .before .before .before .loop-test .taken))
+    (λ j m. omega (arith, a .loop .inv .0 .inside j m, B a .pre .0 .few)))
     (subst (Picks a) (c .enum-told .given .1) (chose d))
 
 loop-again : tie.Need-loop-again Inv-loop μ-loop
 loop-again c =
     let d = c .before .before in
     let a = A d in
-    rw (S d .before .size .ensures, c .before .larger .ensures)
-    (going-more (tb a) (pos a) (a .loop .inv) (inside d) (picked d .0) (picked d .1) (c .less .ensures))
+    (
+      rw (S d .before .before .size .ensures, c .before .larger .ensures)
+          (going-more (tb a) (pos a) (a .loop .inv .0) (inside d) (picked d .0) (picked d .1) (c .less .ensures)),
+      S d .choose .kept .1 .1 .0 ∙ a .loop .inv .1,
+    )
 
 pub fill-spec : {M : Type 1} → statement M
 fill-spec = tie.close (tie.spec Inv-loop μ-loop (λ c. search needs) (λ c κs. search needs) loop-holds
-    (λ c κs. search needs) choose-requires (λ c. search needs) (λ c. search needs) returns (λ c. search needs)
+    (λ c κs. search needs) (λ c. sym (c .before .before .loop .inv .1)) choose-requires (λ c. search needs) (λ c. search needs) returns (λ c. search needs)
     (λ c. search needs) (λ c. search needs) (λ c. omega (arith, inside c)) (λ c. search needs) (λ c. search needs)
     (λ c. omega (arith, inside c)) (λ c. search needs) (λ c. omega (arith, inside c))
     (λ c. omega (arith, picked c .0 .shortest .low)) (λ c κs. search needs)
     (λ c κs. (inside (c .before), picked (c .before) .0 .try)) (λ c. c .less .ensures .smaller) loop-again
-    (λ c. let a = c .before in going-ends (tb a) (pos a) (a .loop .inv) (c .loop-test .left)))
+    (λ c. let a = c .before in going-ends (tb a) (pos a) (a .loop .inv .0) (c .loop-test .left)))
