@@ -7,7 +7,7 @@ ghost use Rattle.tables.specs.Table.{most-rows};
 ghost use Rattle.tables.specs.Plan.{plan-width, planOf};
 ghost use Rattle.tables.specs.inside.Rows.{tableIn};
 ghost use Rattle.test.specs.Test.{Response};
-ghost use Rattle.sides.specs.inside.Asks.{many, Asks};
+ghost use Rattle.sides.specs.inside.Asks.{ask-width, many, Asks};
 ghost use Rattle.sides.specs.inside.Level.{start-of, Small};
 ghost use Rattle.sides.specs.inside.Found.{Fixed, FixedWithin};
 ghost use Rattle.responses.specs.inside.Asked.{Ranked, Above, Blocks, Planned, Responses};
@@ -32,23 +32,24 @@ fn start(level: &[u64], base: u32, low: u32) -> u32
     found
 }
 
-// The response of row i with blocking b and length q, the rows of the set above it. The active period and the first
-// start begin at what is asked for in the first tick, each other start at the one before plus C.
-pub fn response(rows: [Row; 32], asks: &[u64], above: u32, b: u32, i: usize, q: u32) -> u32
-    requires { ⌜ Ranked (tableIn rows (many (now asks))) (now asks) above b i q ⌝ }
+// The response of row i with blocking b and length q, the rows of the set above it; room for their level is lent. The
+// active period and the first start begin at what is asked for in the first tick, each other start at the one before
+// plus C.
+fn response(rows: [Row; 32], asks: &[u64], level: &mut [u64], above: u32, b: u32, i: usize, q: u32) -> u32
+    requires { ⌜ Ranked (tableIn rows (many (now asks))) (now asks) above b i q
+        × (length (now level) ≡ ask-width * most-rows) ⌝ }
     ensures { λ r. ⌜ Response (tableIn rows (many (now (asks .entry)))) (marked above) b i q r ⌝ }
 {
     let row = rows[i];
     let run = row.c;
     let spacing = row.t;
     let with_own = marks::more(above, i as u32);
-    let mut level = [0u64; ASK_WIDTH * MOST_ROWS];
-    let all = sides::level_of(asks, with_own, &mut level);
+    let all = sides::level_of(asks, with_own, level);
     let first = b + sides::runs_of(&level[..ASK_WIDTH * all]);
     let period = sides::periods::active_period(&level[..ASK_WIDTH * all], first);
     let jobs = counting::round_up(period as u64, spacing as u64) as u32;
     let at = marks::place(with_own, i as u32) as usize;
-    sides::leave_out(&mut level, all, at);
+    sides::leave_out(level, all, at);
     let mut largest: u32 = 0;
     let mut low = first - q;
     let mut k: u32 = 0;
@@ -111,6 +112,7 @@ pub fn responses(rows: [Row; 32], n: usize, asks: &[u64], plan: &[u32]) -> [u32;
     ensures { λ r. ⌜ Responses (tableIn rows n) (planOf (now (plan .entry))) r ⌝ }
 {
     let mut times: [u32; 32] = [0; 32];
+    let mut level = [0u64; ASK_WIDTH * MOST_ROWS];
     let mut i: usize = 0;
     while i < n {
         let at = PLAN_WIDTH * i;
@@ -118,7 +120,7 @@ pub fn responses(rows: [Row; 32], n: usize, asks: &[u64], plan: &[u32]) -> [u32;
         let q = plan[at + 1];
         let above = above_of(plan, n, rank);
         let b = blocking_of(plan, n, rank);
-        times[i] = response(rows, asks, above, b, i, q);
+        times[i] = response(rows, asks, &mut level, above, b, i, q);
         i += 1;
     }
     times

@@ -30,13 +30,13 @@ use Rattle.responses.proofs.response.Statement.{statement}
 use Rattle.responses.proofs.response.Tie as tie
 
 abbrev Inv-loop : tie.InvT-loop
-Inv-loop asks above b i q rows run spacing with level all first period jobs at largest₀ low₀ k₀ largest low k =
+Inv-loop asks level above b i q rows run spacing with all first period jobs at largest₀ low₀ k₀ largest low k =
     let tb = tableIn rows (many asks) in
     let P = marked above in
     Passed tb P b i q k largest × (k ≤ jobs) × ((s : ℕ) → Start tb P b i q (suc k) s → low ≤ s)
 
 abbrev μ-loop : tie.MeasureT-loop
-μ-loop asks above b i q rows run spacing with level all first period jobs at largest₀ low₀ k₀ largest low k =
+μ-loop asks level above b i q rows run spacing with all first period jobs at largest₀ low₀ k₀ largest low k =
     jobs - k
 
 -- row i
@@ -48,15 +48,15 @@ module _ (s : tie.Start Inv-loop μ-loop) where
   P = marked (s .args .above)
 
   run : Within (tb .C (s .args .i))
-  run = s .pre .sound .row (s .args .i) (s .pre .row) .C
+  run = s .pre .0 .sound .row (s .args .i) (s .pre .0 .row) .C
 
   spacing : Within (tb .T (s .args .i))
-  spacing = s .pre .sound .row (s .args .i) (s .pre .row) .T
+  spacing = s .pre .0 .sound .row (s .args .i) (s .pre .0 .row) .T
 
 -- the level of it and the rows above
 module _ (c : tie.After-level-of Inv-loop μ-loop) where
   abbrev S : tie.Start Inv-loop μ-loop
-  S = c .before .before .before .before .before
+  S = c .before .before .before .before .before .before
 
   -- the rows of the level
   abbrev more : ℕ
@@ -66,20 +66,20 @@ module _ (c : tie.After-level-of Inv-loop μ-loop) where
   all = c .level-of .last .1 .1 .0
 
   all-whole : length all ≡ ask-width * most-rows
-  all-whole = c .level-of .kept .1 .1 .0
+  all-whole = c .level-of .kept .1 .1 .0 ∙ S .pre .1
 
   fits : ask-width * c .level-of .result ≤ length all
   fits = omega (arith, c .level-of .ensures .few, all-whole)
 
   asking : Asking (tb S) (marked more) (take (ask-width * c .level-of .result) all)
-  asking = asking-packed (S .pre .sound) (S .pre .asked) all-whole (c .level-of .ensures)
+  asking = asking-packed (S .pre .0 .sound) (S .pre .0 .asked) all-whole (c .level-of .ensures)
 
   -- the row has its place in it
   row-inside : S .args .i < many (S .args .asks .now)
-  row-inside = omega (arith, S .pre .row, rows (S .pre))
+  row-inside = omega (arith, S .pre .0 .row, rows (S .pre .0))
 
   row-marked : marked more (S .args .i) ≡ true
-  row-marked = own (S .pre) more (c .before .before .more .ensures)
+  row-marked = own (S .pre .0) more (c .before .before .more .ensures)
 
   place-fits : count (marked more) (S .args .i) < c .level-of .result
   place-fits = place-inside (c .level-of .ensures) all-whole (S .args .i) row-inside row-marked
@@ -87,7 +87,7 @@ module _ (c : tie.After-level-of Inv-loop μ-loop) where
 -- what is asked for in the first tick
 module _ (f : tie.After-runs-of Inv-loop μ-loop) where
   abbrev W : tie.After-level-of Inv-loop μ-loop
-  W = f .before .before .before
+  W = f .before .before .before .before
 
   abbrev asked : ℕ
   asked = S W .args .b + f .runs-of .result
@@ -96,20 +96,20 @@ module _ (f : tie.After-runs-of Inv-loop μ-loop) where
   asks-runs = omega (arith, f .runs-of .ensures)
 
   first-is : let s = S W in asked ≡ active-side (tb s) (P s) (s .args .b) (s .args .i) 1
-  first-is = first (S W .pre) (more W) (W .before .before .more .ensures) (asking W) asks-runs
+  first-is = first (S W .pre .0) (more W) (W .before .before .more .ensures) (asking W) asks-runs
 
   within-horizon : FixedWithin (active-of (take (ask-width * W .level-of .result) (all W)) asked) 1 asked
-  within-horizon = within (S W .pre) (more W) (W .before .before .more .ensures) (asking W) asks-runs
+  within-horizon = within (S W .pre .0) (more W) (W .before .before .more .ensures) (asking W) asks-runs
 
 -- its active period
 module _ (a : tie.After-active-period Inv-loop μ-loop) where
   abbrev F : tie.After-runs-of Inv-loop μ-loop
   F = a .before .before
 
-  same : a .active-period .result ≡ S (W F) .pre .period
+  same : a .active-period .result ≡ S (W F) .pre .0 .period
   same =
       let w = W F in
-      found (S w .pre) (more w) (w .before .before .more .ensures) (asking w) (asks-runs F) (a .active-period .ensures)
+      found (S w .pre .0) (more w) (w .before .before .more .ensures) (asking w) (asks-runs F) (a .active-period .ensures)
 
 -- its jobs
 module _ (r : tie.After-round-up Inv-loop μ-loop) where
@@ -117,14 +117,14 @@ module _ (r : tie.After-round-up Inv-loop μ-loop) where
   R = S (W (F (r .before)))
 
   abbrev K : ℕ
-  K = jobs (tb R) (P R) (R .args .b) (R .args .i) (R .pre .period)
+  K = jobs (tb R) (P R) (R .args .b) (R .args .i) (R .pre .0 .period)
 
   jobs-are : r .round-up .result ≡ K
   jobs-are =
       omega (arith, r .round-up .ensures, ap (jobs (tb R) (P R) (R .args .b) (R .args .i)) (same (r .before)))
 
   jobs-within : r .round-up .result ≤ horizon
-  jobs-within = omega (arith, jobs-are, jobs-few (working (R .pre)))
+  jobs-within = omega (arith, jobs-are, jobs-few (working (R .pre .0)))
 
 -- the level of the rows above: the row left out of it
 module _ (c : tie.After-leave-out Inv-loop μ-loop) where
@@ -163,14 +163,14 @@ module _ (c : tie.After-leave-out Inv-loop μ-loop) where
       let i = Z .args .i in
       let held = left-holding (O .level-of .ensures) (all-whole O) i (row-inside O) (row-marked O) in
       subst (λ Q. Asking (tb Z) Q (take (ask-width * last) higher))
-      (sym (others (Z .pre) (more O) (O .before .before .more .ensures)))
-      (asking-held (Z .pre .sound) (Z .pre .asked) whole
+      (sym (others (Z .pre .0) (more O) (O .before .before .more .ensures)))
+      (asking-held (Z .pre .0 .sound) (Z .pre .0 .asked) whole
       (subst (λ l. Holding (Z .args .asks .now) (without (marked (more O)) i) l last) (sym left-is) held))
 
 -- a job of the active period
 module _ (c : tie.In-loop Inv-loop μ-loop) where
   abbrev H : tie.After-leave-out Inv-loop μ-loop
-  H = c .before .before .before
+  H = c .before .before .before .before
 
   abbrev k : ℕ
   k = c .before .loop .k
@@ -179,14 +179,14 @@ module _ (c : tie.In-loop Inv-loop μ-loop) where
   counts = omega (arith, c .loop-test .taken, jobs-are (M H))
 
   few : suc k ≤ horizon
-  few = omega (arith, counts, jobs-few (working (Z H .pre)))
+  few = omega (arith, counts, jobs-few (working (Z H .pre .0)))
 
   exists : (s : ℕ) × Start (tb (Z H)) (P (Z H)) (Z H .args .b) (Z H .args .i) (Z H .args .q) (suc k) s
-      × (s + Z H .args .q ≤ Z H .pre .period)
-  exists = job-exists (working (Z H .pre)) (suc k) (omega arith) counts
+      × (s + Z H .args .q ≤ Z H .pre .0 .period)
+  exists = job-exists (working (Z H .pre .0)) (suc k) (omega arith) counts
 
   short : exists .0 ≤ horizon
-  short = omega (arith, exists .2, Z H .pre .within)
+  short = omega (arith, exists .2, Z H .pre .0 .within)
 
 -- its base
 based : (c : tie.After-base-of Inv-loop μ-loop) → let j = c .before .before in let x = Z (H j) in
@@ -205,21 +205,21 @@ module _ (c : tie.After-start Inv-loop μ-loop) where
   starts =
       let e = exists J in
       let a = X .args in
-      let p = X .pre in
+      let p = X .pre .0 in
       subst (Start (tb X) (P X) (a .b) (a .i) (a .q) (suc (k J)))
       (sym (start-found (above-asking (H J)) (positive p) (a .b) (a .i) (a .q) (k J) (p .row) (p .most)
       (based (c .before .before)) (short J) (e .1) (c .start .ensures))) (e .1)
 
   job : Job (tb X) (X .args .i) (X .args .q) (k J) (c .start .result)
-  job = job-known (working (X .pre)) (k J) (counts J) starts
+  job = job-known (working (X .pre .0)) (k J) (counts J) starts
 
 level-of-requires : tie.Need-level-of-requires Inv-loop μ-loop
 level-of-requires c κs =
-    let s = c .before .before .before .before in
-    (s .pre .sound .few, inside (s .pre) (c .before .more .result) (c .before .more .ensures), refl)
+    let p = c .before .before .before .before .before .pre in
+    (p .0 .sound .few, inside (p .0) (c .before .more .result) (c .before .more .ensures), p .1)
 
 runs-of-requires : tie.Need-runs-of-requires Inv-loop μ-loop
-runs-of-requires c κs = asking (c .before .before) .small
+runs-of-requires c κs = asking (c .before .before .before) .small
 
 active-period-requires : tie.Need-active-period-requires Inv-loop μ-loop
 active-period-requires c κs = let f = c .before in (asking (W f) .small, within-horizon f)
@@ -232,19 +232,19 @@ leave-out-requires c κs =
 
 loop-holds : tie.Need-loop-holds Inv-loop μ-loop
 loop-holds c =
-    let h = c .before in
+    let h = c .before .before in
     let first = first-is (F (A h)) in
-    (passed-none _ _ _ _ _, omega arith, λ s st. omega (arith, job-base (working (Z h .pre)) 0 st))
+    (passed-none _ _ _ _ _, omega arith, λ s st. omega (arith, job-base (working (Z h .pre .0)) 0 st))
 
 base-of-requires : tie.Need-base-of-requires Inv-loop μ-loop
 base-of-requires c κs =
     let j = c .before in
     let x = Z (H j) in
-    let w = working (x .pre) in
+    let w = working (x .pre .0) in
     let first = first-is (F (A (H j))) in (
-      omega (arith, x .pre .most, run x .high),
+      omega (arith, x .pre .0 .most, run x .high),
       omega (arith, length-first w),
-      omega (arith, base-within w (k j) (counts j), x .pre .within),
+      omega (arith, base-within w (k j) (counts j), x .pre .0 .within),
     )
 
 start-requires : tie.Need-start-requires Inv-loop μ-loop
@@ -253,7 +253,7 @@ start-requires c κs =
     let e = exists j in
     let a = above-asking (H j) in
     let x = Z (H j) in
-    let p = x .pre in
+    let p = x .pre .0 in
     let from = start-within a (positive p) (x .args .b) (x .args .i) (x .args .q) (k j) (p .row) (p .most)
     (based (c .before)) (short j) (e .1) in
     (a .small, from (j .before .loop .inv .2 (e .0) (e .1)))
@@ -268,36 +268,41 @@ loop-again c =
     ⊎-elim (λ w. omega (arith, w .0 .taken, w .1)) (λ w. omega (arith, w .0 .left, w .1)) (c .if1 .came) in (
       rw e (passed-more (l .inv .0) (starts d) (job d)),
       omega (arith, j .loop-test .taken),
-      λ s st. next-low (working (X d .pre)) (suc (l .k)) (omega arith) (starts d) (rw (add-one (l .k)) at st),
+      λ s st. next-low (working (X d .pre .0)) (suc (l .k)) (omega arith) (starts d) (rw (add-one (l .k)) at st),
     )
+
+-- the level has its length still
+as-lent : tie.Need-same-length Inv-loop μ-loop
+as-lent c = let h = c .before .before .before .before in h .leave-out .kept .0 ∙ O h .level-of .kept .1 .1 .0
 
 returns : tie.Need-returns Inv-loop μ-loop
 returns c =
-    let h = c .before .before .before in
+    let h = c .before .before .before .before in
     let l = c .before .loop in
     let all : l .k ≡ K (M h) = omega (arith, l .inv .1, c .loop-test .left, jobs-are (M h)) in
-    passed-all (working (Z h .pre)) (rw all at (l .inv .0))
+    passed-all (working (Z h .pre .0)) (rw all at (l .inv .0))
 
 pub response-spec : {M : Type 1} → statement M
 response-spec = tie.close (tie.spec Inv-loop μ-loop
-    (λ c. let p = c .before .pre in omega (arith, p .row, p .sound .few))
-    (λ c. let p = c .before .pre in omega (arith, p .row, p .sound .few))
-    (λ c. let p = c .before .before .pre in omega (arith, p .row, p .sound .few))
-    (λ c κs. let p = c .before .before .pre in (omega (arith, p .row, p .sound .few), p .apart))
-    (λ c. refl) level-of-requires (λ c. omega (arith, c .before .level-of .ensures .few)) (λ c. fits (c .before))
-    (λ c. sym (length-take-le _ _ (fits (c .before .before)))) runs-of-requires
+    (λ c. let p = c .before .before .pre .0 in omega (arith, p .row, p .sound .few))
+    (λ c. let p = c .before .before .pre .0 in omega (arith, p .row, p .sound .few))
+    (λ c. let p = c .before .before .before .pre .0 in omega (arith, p .row, p .sound .few))
+    (λ c κs. let p = c .before .before .before .pre .0 in (omega (arith, p .row, p .sound .few), p .apart))
+    level-of-requires (λ c. omega (arith, c .before .before .level-of .ensures .few)) (λ c. fits (c .before .before))
+    (λ c. sym (length-take-le _ _ (fits (c .before .before .before)))) runs-of-requires
     (λ c. let w = within-horizon c in omega (arith, w .under, w .within))
-    (λ c. omega (arith, c .before .before .before .level-of .ensures .few)) (λ c. fits (c .before .before .before))
-    (λ c. sym (length-take-le _ _ (fits (c .before .before .before .before)))) active-period-requires
+    (λ c. omega (arith, W c .level-of .ensures .few)) (λ c. fits (W c))
+    (λ c. sym (length-take-le _ _ (fits (W (c .before))))) active-period-requires
     (λ c. search needs) (λ c. omega (arith, spacing (S (W (F c))) .high))
-    (λ c κs. let t = spacing (S (W (F c))) in (t .low, omega (arith, same c, S (W (F c)) .pre .within, t .high)))
+    (λ c κs. let t = spacing (S (W (F c))) in (t .low, omega (arith, same c, S (W (F c)) .pre .0 .within, t .high)))
     (λ c. omega (arith, jobs-within c))
-    (λ c. let p = S (W (F (c .before))) .pre in omega (arith, p .row, p .sound .few))
-    (λ c κs. let p = S (W (F (c .before))) .pre in omega (arith, p .row, p .sound .few)) (λ c. search needs)
-    (λ c. sym (all-whole (W (F (c .before .before .before))))) leave-out-requires
-    (λ c. omega (arith, first-is (F (A (c .before))), length-first (working (Z (c .before) .pre)))) loop-holds
-    (λ c. let p = Z (H c) .pre in omega (arith, p .row, p .sound .few))
-    (λ c. let p = Z (H c) .pre in omega (arith, p .row, p .sound .few))
+    (λ c. let p = S (W (F (c .before))) .pre .0 in omega (arith, p .row, p .sound .few))
+    (λ c κs. let p = S (W (F (c .before))) .pre .0 in omega (arith, p .row, p .sound .few)) (λ c. search needs)
+    leave-out-requires
+    (λ c. omega (arith, first-is (F (A (c .before .before))), length-first (working (Z (c .before .before) .pre .0))))
+    loop-holds
+    (λ c. let p = Z (H c) .pre .0 in omega (arith, p .row, p .sound .few))
+    (λ c. let p = Z (H c) .pre .0 in omega (arith, p .row, p .sound .few))
     base-of-requires (λ c. omega (arith, place-fits (O (H (c .before .before)))))
     (λ c. omega (arith, O (H (c .before .before)) .level-of .ensures .few))
     (λ c. above-fits (H (c .before .before)))
@@ -305,4 +310,4 @@ response-spec = tie.close (tie.spec Inv-loop μ-loop
     (λ c. omega (arith, job c .ends))
     (λ c. omega (arith, job c .released)) (λ c. omega (arith, job c .after))
     (λ c. omega (arith, job (c .before) .ends, run (X (c .before)) .high))
-    (λ c. omega (arith, few (J (c .before)))) (λ c. search needs) loop-again returns)
+    (λ c. omega (arith, few (J (c .before)))) (λ c. search needs) loop-again as-lent returns)

@@ -1,5 +1,5 @@
 -- `responses` meets its contract: each row passed has its response in its place, and the places not reached hold 0.
-use Prim.Native.Nat.{ℕ, _≤_, _<_, _-_}
+use Prim.Native.Nat.{ℕ, _≤_, _<_, _-_, _*_}
 use mathlib.Core.Path.{_≡_, refl, sym, _∙_, subst}
 use native.Mathlib.Omega.{arith}
 use lib.ListN.{length-set, length, getD}
@@ -10,7 +10,7 @@ use Rattle.tables.specs.Table.{Table, most-rows}
 use Rattle.tables.specs.Plan.{planOf}
 use Rattle.tables.specs.inside.Rows.{tableIn}
 use Rattle.test.specs.Test.{Response, ResponseOf}
-use Rattle.sides.specs.inside.Asks.{many}
+use Rattle.sides.specs.inside.Asks.{ask-width, many}
 use Rattle.sides.proofs.Pairs.{zeros}
 use Rattle.responses.specs.inside.Asked.{Ranked}
 use Rattle.responses.proofs.Row.{Placed, ranked, response-here}
@@ -19,13 +19,14 @@ use Rattle.responses.proofs.responses.Statement.{statement}
 use Rattle.responses.proofs.responses.Tie as tie
 
 abbrev Inv-loop : tie.InvT-loop
-Inv-loop rows n asks plan times₀ i₀ times i =
+Inv-loop rows n asks plan times₀ level₀ i₀ times level i =
     (i ≤ n) × (length times ≡ most-rows) ×
     ((j : ℕ) → j < i → ResponseOf (tableIn rows n) (planOf plan) j (getD times j 0))
     × ((j : ℕ) → i ≤ j → getD times j 0 ≡ 0)
+    × (length level ≡ ask-width * most-rows)
 
 abbrev μ-loop : tie.MeasureT-loop
-μ-loop rows n asks plan times₀ i₀ times i = n - i
+μ-loop rows n asks plan times₀ level₀ i₀ times level i = n - i
 
 -- the row in hand
 module _ (l : tie.In-loop Inv-loop μ-loop) where
@@ -63,33 +64,39 @@ module _ (c : tie.After-blocking-of Inv-loop μ-loop) where
       }
 
 -- and its response
-responds : (c : tie.After-response Inv-loop μ-loop) → let d = c .before in let z = s (l d) in
+responds : (c : tie.After-response Inv-loop μ-loop) → let d = c .before .before in let z = s (l d) in
     Response (table (l d) (z .args .n)) (marked (above d)) (b d) (i d) (planOf (z .args .plan .now) .len (i d))
     (c .response .result)
 responds c =
-    let d = c .before in
+    let d = c .before .before in
     let q = planOf (s (l d) .args .plan .now) .len (i d) in
     subst (λ m. Response (table (l d) m) (marked (above d)) (b d) (i d) q (c .response .result)) (rows (l d))
     (c .response .ensures)
 
 loop-holds : tie.Need-loop-holds Inv-loop μ-loop
-loop-holds c = (search needs, refl, below-none _, λ j _. zeros most-rows j)
+loop-holds c = (search needs, refl, below-none _, λ j _. zeros most-rows j, refl)
 
 response-requires : tie.Need-response-requires Inv-loop μ-loop
 response-requires c κs =
-    let z = s (l c) in
-    subst (λ m. Ranked (table (l c) m) (z .args .asks .now) (above c) (b c) (i c)
-    (planOf (z .args .plan .now) .len (i c))) (sym (rows (l c))) (ranked (placed c) (z .pre .1))
+    let d = c .before in
+    let z = s (l d) in (
+      subst (λ m. Ranked (table (l d) m) (z .args .asks .now) (above d) (b d) (i d)
+          (planOf (z .args .plan .now) .len (i d))) (sym (rows (l d))) (ranked (placed d) (z .pre .1)),
+      l d .before .loop .inv .4,
+    )
 
 loop-again : tie.Need-loop-again Inv-loop μ-loop
 loop-again c =
-    let w = placed (c .before) in
-    let here = l (c .before) .before .loop in (
+    let x = c .before in
+    let w = placed (x .before .before) in
+    let here = l (x .before .before) .before .loop in
+    let R = x .response .result in (
       search needs,
-      length-set (here .times) (here .i) (c .response .result) ∙ here .inv .1,
-      stored (ResponseOf _ _) (here .times) (here .i) (c .response .result)
-          (omega (arith, w .row, w .planned .sound .few, here .inv .1)) (here .inv .2) (response-here w (responds c)),
-      unreached (here .times) (here .i) (c .response .result) (here .inv .3),
+      length-set (here .times) (here .i) R ∙ here .inv .1,
+      stored (ResponseOf _ _) (here .times) (here .i) R
+          (omega (arith, w .row, w .planned .sound .few, here .inv .1)) (here .inv .2) (response-here w (responds x)),
+      unreached (here .times) (here .i) R (here .inv .3),
+      x .response .kept .1 .1 .0 ∙ here .inv .4,
     )
 
 returns : tie.Need-returns Inv-loop μ-loop
@@ -106,5 +113,5 @@ responses-spec = tie.close (tie.spec Inv-loop μ-loop loop-holds (λ c. search n
     (λ c. search needs) (λ c. search needs) (λ c. search needs) (λ c. search needs)
     (λ c κs. let p = s (c .before .before) .pre .0 in (p .sound .few, p .whole))
     (λ c κs. let p = s (c .before .before .before) .pre .0 in (p .sound .few, p .whole))
-    response-requires (λ c. search needs)
+    (λ c. sym (l (c .before) .before .loop .inv .4)) response-requires (λ c. search needs)
     (λ c. search needs) (λ c. search needs) (λ c. search needs) loop-again returns)
