@@ -114,7 +114,7 @@ loop-again c =
 
 pub fill-spec : {M : Type 1} → statement M
 fill-spec = tie.close (tie.spec Inv-loop μ-loop (λ c. search needs) (λ c κs. search needs) loop-holds
-    (λ c κs. search needs) (λ c. sym (c .before .before .loop .inv .1)) choose-requires (λ c. search needs) (λ c. search needs) returns (λ c. search needs)
+    (λ c κs. search needs) (λ c. sym (c .before .before .before .loop .inv .1)) choose-requires (λ c. search needs) (λ c. search needs) returns (λ c. search needs)
     (λ c. search needs) (λ c. search needs) (λ c. omega (arith, inside c)) (λ c. search needs) (λ c. search needs)
     (λ c. omega (arith, inside c)) (λ c. search needs) (λ c. omega (arith, inside c))
     (λ c. omega (arith, picked c .0 .shortest .low)) (λ c κs. search needs)
