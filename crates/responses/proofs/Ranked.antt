@@ -12,7 +12,7 @@ use Rattle.counting.proofs.Cases.{or-cases, or-right}
 use Rattle.counting.proofs.Sum.{is-without}
 use Rattle.marks.specs.inside.Marks.{marked, More}
 use Rattle.tables.specs.Table.{Table}
-use Rattle.test.specs.Test.{horizon, Active, active-side}
+use Rattle.test.specs.Test.{Active, active-side}
 use Rattle.test.proofs.Load.{Positive, sound-positive}
 use Rattle.sides.specs.inside.Asks.{many}
 use Rattle.sides.specs.inside.Level.{runs-of, active-of}
@@ -59,14 +59,14 @@ module _ {tb : Table} {asks : List ℕ} {set b i q : ℕ} (r : Ranked tb asks se
     -- over a level of it and the rows above
     module _ {level : List ℕ} (a : Asking tb (marked all) level) {first-asked : ℕ} (f : first-asked ≡ b + runs-of level)
       where
-      abbrev alone : Active tb (without (marked all) i) b i (r .period)
-      alone = rw (← others) (r .active)
+        abbrev alone : Active tb (without (marked all) i) b i (r .period)
+        alone = rw (← others) (r .active)
 
-      pub first : first-asked ≡ active-side tb (marked set) b i 1
-      first = rw others (active-first a positive b i f (r .row) own)
+        pub first : first-asked ≡ active-side tb (marked set) b i 1
+        first = rw others (active-first a positive b i f (r .row) own)
 
-      pub within : FixedWithin (active-of level first-asked) 1 first-asked
-      within = active-within a positive b i f (r .row) own (r .within) alone
+        pub within : FixedWithin (active-of level first-asked) 1 first-asked
+        within = active-within a positive b i f (r .row) own (r .within) alone
 
-      pub found : {t : ℕ} → Fixed (active-of level first-asked) 1 t → t ≡ r .period
-      found = active-found a positive b i f (r .row) own (r .within) alone
+        pub found : {t : ℕ} → Fixed (active-of level first-asked) 1 t → t ≡ r .period
+        found = active-found a positive b i f (r .row) own (r .within) alone

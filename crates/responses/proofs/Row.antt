@@ -1,6 +1,6 @@
 -- A row of a plan, with its rows above as a set and its blocking as a number: what its response asks for, and what it
 -- then is.
-use Prim.Native.Nat.{ℕ, _≤_, _<_}
+use Prim.Native.Nat.{ℕ, _<_}
 use mathlib.Core.Path.{_≡_, refl, sym, _∙_}
 use mathlib.Core.Bool.{Bool}
 use mathlib.Core.List.{List}

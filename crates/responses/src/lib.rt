@@ -35,7 +35,15 @@ fn start(level: &[u64], base: u32, low: u32) -> u32
 // The response of row i with blocking b and length q, the rows of the set above it; room for their level is lent. The
 // active period and the first start begin at what is asked for in the first tick, each other start at the one before
 // plus C.
-fn response(rows: [Row; 32], asks: &[u64], level: &mut [u64], above: u32, b: u32, i: usize, q: u32) -> u32
+fn response(
+    rows: [Row; 32],
+    asks: &[u64],
+    level: &mut [u64],
+    above: u32,
+    b: u32,
+    i: usize,
+    q: u32,
+) -> u32
     requires { ⌜ Ranked (tableIn rows (many (now asks))) (now asks) above b i q
         × (length (now level) ≡ ask-width * most-rows) ⌝ }
     ensures { λ r. ⌜ Response (tableIn rows (many (now (asks .entry)))) (marked above) b i q r ⌝ }

@@ -44,7 +44,14 @@ fn next_length(low: u32, high: u32, cap: u32) -> u32
 // The rows to try are given beside the unplaced ones, and room for their level is lent. The active period, and what is
 // asked for in its first tick, are the same for every row of the level. No row is tried after one that takes the rank
 // with length 1.
-pub fn choose(rows: [Row; 32], asks: &[u64], level: &mut [u64], unplaced: u32, tried: u32, blocking: u32) -> Pick
+pub fn choose(
+    rows: [Row; 32],
+    asks: &[u64],
+    level: &mut [u64],
+    unplaced: u32,
+    tried: u32,
+    blocking: u32,
+) -> Pick
     requires { ⌜ Searchable (tableIn rows (many (now asks))) (now asks) unplaced tried blocking
         × (length (now level) ≡ ask-width * most-rows) ⌝ }
     ensures { λ r. ⌜ Picked (tableIn rows (many (now (asks .entry)))) (marked unplaced) blocking (marked tried) r ⌝ }

@@ -1,10 +1,10 @@
 -- `blocking_of` meets its contract: the longest length below, of the rows passed.
-use Prim.Native.Nat.{pred, ℕ, _≤_, _+_, _*_, _-_}
+use Prim.Native.Nat.{pred, ℕ, _≤_, _-_}
 use mathlib.Core.Logic.{⊎-elim}
 use mathlib.Core.Path.{_≡_, sym, ap, _∙_}
 use native.Mathlib.Omega.{arith}
 use borrow.Author.Needs.{needs}
-use Rattle.tables.specs.Plan.{planOf, plan-width}
+use Rattle.tables.specs.Plan.{planOf}
 use Rattle.responses.specs.inside.Asked.{Blocks}
 use Rattle.responses.proofs.Plans.{longest-in, longest-none, longest-more, longest-same, blocking-in}
 use Rattle.responses.proofs.blocking_of.Statement.{statement}

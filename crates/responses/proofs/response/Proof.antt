@@ -71,7 +71,10 @@ module _ (c : tie.After-level-of Inv-loop μ-loop) where
   fits : ask-width * c .level-of .result ≤ length all
   fits = omega (arith, c .level-of .ensures .few, all-whole)
 
-  asking : Asking (tb S) (marked more) (take (ask-width * c .level-of .result) all)
+  abbrev front : List ℕ
+  front = take (ask-width * c .level-of .result) all
+
+  asking : Asking (tb S) (marked more) front
   asking = asking-packed (S .pre .0 .sound) (S .pre .0 .asked) all-whole (c .level-of .ensures)
 
   -- the row has its place in it
@@ -92,13 +95,13 @@ module _ (f : tie.After-runs-of Inv-loop μ-loop) where
   abbrev asked : ℕ
   asked = S W .args .b + f .runs-of .result
 
-  asks-runs : asked ≡ S W .args .b + runs-of (take (ask-width * W .level-of .result) (all W))
+  asks-runs : asked ≡ S W .args .b + runs-of (front W)
   asks-runs = omega (arith, f .runs-of .ensures)
 
   first-is : let s = S W in asked ≡ active-side (tb s) (P s) (s .args .b) (s .args .i) 1
   first-is = first (S W .pre .0) (more W) (W .before .before .more .ensures) (asking W) asks-runs
 
-  within-horizon : FixedWithin (active-of (take (ask-width * W .level-of .result) (all W)) asked) 1 asked
+  within-horizon : FixedWithin (active-of (front W) asked) 1 asked
   within-horizon = within (S W .pre .0) (more W) (W .before .before .more .ensures) (asking W) asks-runs
 
 -- its active period
@@ -109,7 +112,8 @@ module _ (a : tie.After-active-period Inv-loop μ-loop) where
   same : a .active-period .result ≡ S (W F) .pre .0 .period
   same =
       let w = W F in
-      found (S w .pre .0) (more w) (w .before .before .more .ensures) (asking w) (asks-runs F) (a .active-period .ensures)
+      found (S w .pre .0) (more w) (w .before .before .more .ensures) (asking w) (asks-runs F)
+      (a .active-period .ensures)
 
 -- its jobs
 module _ (r : tie.After-round-up Inv-loop μ-loop) where

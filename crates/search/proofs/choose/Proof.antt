@@ -112,7 +112,10 @@ module _ (w : Under tie.After-level-of) where
   all-fits : ask-width * w .level-of .result ≤ length all
   all-fits = omega (arith, w .level-of .ensures .few, all-whole)
 
-  all-asking : Asking (tb packed) (U packed) (take (ask-width * w .level-of .result) all)
+  abbrev front : List ℕ
+  front = take (ask-width * w .level-of .result) all
+
+  all-asking : Asking (tb packed) (U packed) front
   all-asking = asking-packed (packed .pre .0 .sound) (packed .pre .0 .asked) all-whole (w .level-of .ensures)
 
 -- ---- what it asks for in the first tick
@@ -123,10 +126,10 @@ module _ (f : Under tie.After-runs-of) where
   abbrev first : ℕ
   first = b (packed whole-level) + f .runs-of .result
 
-  asks-runs : first ≡ b (packed whole-level) + runs-of (take (ask-width * whole-level .level-of .result) (all whole-level))
+  asks-runs : first ≡ b (packed whole-level) + runs-of (front whole-level)
   asks-runs = omega (arith, f .runs-of .ensures)
 
-  period-there : FixedWithin (active-of (take (ask-width * whole-level .level-of .result) (all whole-level)) first) 1 first
+  period-there : FixedWithin (active-of (front whole-level) first) 1 first
   period-there =
       let s = packed whole-level in
       period-exists (s .pre .0) _ (some s) (all-asking whole-level) asks-runs
@@ -323,7 +326,7 @@ module _ (c : Under tie.At-loop) where
       let k = J .jobs .k in
       let z : suc (k - 1) ≡ k = omega (arith, J .jobs .inv .low) in
       let based : c .before .base-of .result
-          ≡ active-side (tb (S h)) (P h) (b (S h)) (i h) 1 + (k - 1) * tb (S h) .C (i h) - q I =
+      ≡ active-side (tb (S h)) (P h) (b (S h)) (i h) 1 + (k - 1) * tb (S h) .C (i h) - q I =
       omega (arith, c .before .base-of .ensures, first-is h) in
       start-of-is (asking h) (w .positive) (b (S h)) (i h) (q I) (k - 1) (w .row) (w .most) based (c .loop .s)
       (omega (arith, within))
@@ -454,12 +457,11 @@ base-of-requires c κs =
     let x = c .before .before in
     let h = R x in
     let t = c .before .jobs .inv in
-    let counts : c .before .jobs .k - 1 < jobs (tb (S h)) (P h) (b (S h)) (i h) (L h) = omega (arith, t .low, t .high) in
     let w = working x in
     let e = first-is h in (
       omega (arith, w .most, runs h .high),
       omega (arith, length-first w),
-      omega (arith, base-within w (c .before .jobs .k - 1) counts, short h),
+      omega (arith, base-within w (c .before .jobs .k - 1) (omega (arith, t .low, t .high)), short h),
     )
 
 start-side-requires : Under tie.Need-start-side-requires

@@ -105,8 +105,7 @@ returns c =
 loop-again : tie.Need-loop-again Inv-loop μ-loop
 loop-again c =
     let d = c .before .before in
-    let a = A d in
-    (
+    let a = A d in (
       rw (S d .before .before .size .ensures, c .before .larger .ensures)
           (going-more (tb a) (pos a) (a .loop .inv .0) (inside d) (picked d .0) (picked d .1) (c .less .ensures)),
       S d .choose .kept .1 .1 .0 ∙ a .loop .inv .1,
@@ -114,8 +113,9 @@ loop-again c =
 
 pub fill-spec : {M : Type 1} → statement M
 fill-spec = tie.close (tie.spec Inv-loop μ-loop (λ c. search needs) (λ c κs. search needs) loop-holds
-    (λ c κs. search needs) (λ c. sym (c .before .before .before .loop .inv .1)) choose-requires (λ c. search needs) (λ c. search needs) returns (λ c. search needs)
-    (λ c. search needs) (λ c. search needs) (λ c. omega (arith, inside c)) (λ c. search needs) (λ c. search needs)
+    (λ c κs. search needs) (λ c. sym (c .before .before .before .loop .inv .1)) choose-requires (λ c. search needs)
+    (λ c. search needs) returns (λ c. search needs) (λ c. search needs) (λ c. search needs)
+    (λ c. omega (arith, inside c)) (λ c. search needs) (λ c. search needs)
     (λ c. omega (arith, inside c)) (λ c. search needs) (λ c. omega (arith, inside c))
     (λ c. omega (arith, picked c .0 .shortest .low)) (λ c κs. search needs)
     (λ c κs. (inside (c .before), picked (c .before) .0 .try)) (λ c. c .less .ensures .smaller) loop-again
