@@ -31,6 +31,9 @@ module _ (c : tie.After-shared-slice-known Inv-loop μ-loop) where
         runs-small (l .before .before .pre),
       )
 
+loop-again : tie.Need-loop-again Inv-loop μ-loop
+loop-again c = summed-more (l c .before .loop .inv) (l c .loop-test .taken) refl
+
 returns : tie.Need-returns Inv-loop μ-loop
 unfolding runs-of
 returns c = summed-all (c .before .loop .inv) (c .loop-test .left)
@@ -41,4 +44,4 @@ runs-of-spec = tie.close (tie.spec Inv-loop μ-loop (λ c. summed-none)
     (λ c. omega (arith, c .loop-test .taken, c .before .before .pre .few))
     (λ c. omega (arith, c .before .loop-test .taken))
     (λ c. omega (arith, within c)) (λ c. omega (arith, within c)) (λ c. search needs) (λ c. search needs)
-    (λ c. summed-more (l c .before .loop .inv) (l c .loop-test .taken) refl) returns)
+    loop-again returns)
