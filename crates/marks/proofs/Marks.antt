@@ -1,10 +1,10 @@
 -- The laws of marks: the first mark by trailing zeros, how many there are, one less, one more, all of n. Each by
 -- induction on the digits.
-use Prim.Native.Nat.{ℕ, zero, suc, _+_, _-_, _*_, _/_, _%_, _^_, _≤_, _<_, zero-le}
+use Prim.Native.Nat.{ℕ, zero, suc, _+_, _-_, _*_, _/_, _%_, _^_, min, _≤_, _<_, zero-le}
 use mathlib.Core.Path.{_≡_, refl, sym, ap, _∙_, fun-ext}
 use mathlib.Core.Bool.{Bool, true, false, or-false, or-true}
 use native.Mathlib.Omega.{arith}
-use native.Mathlib.Nat.{pow-suc, le-of-suc-le-suc, not-suc-le-zero, one-mul}
+use native.Mathlib.Nat.{div-one, div-div-eq-div-mul, pow-suc, le-of-suc-le-suc, not-suc-le-zero, one-mul}
 use lib.Dec.{eqb, ltb, lit<}
 use lib.Pow.{pow-pos, pow-mono, ones-split, high, shl-exact}
 use lib.Bits.{bitAnd, and-step, and-self, and-zero-r}
@@ -14,7 +14,7 @@ use Rattle.counting.specs.Sum.{given, sum, count}
 use Rattle.counting.proofs.Cases.{by-bool, by-eq, by-le, not-both}
 use Rattle.counting.proofs.Least.{least-unique}
 use Rattle.counting.proofs.Sum.{is-without, given-no, sum-zero, sum-ext, sum-front, count-without, count-all}
-use Rattle.marks.specs.inside.Marks.{marked, Whole, Next, Less, More}
+use Rattle.marks.specs.inside.Marks.{marked, Whole, Next, Both, Less, More}
 
 -- the lowest digit is 0 or 1
 digit : {P : Type 0} (s : ℕ) → (s % 2 ≡ 0 → P) → (s % 2 ≡ 1 → P) → P
@@ -188,6 +188,26 @@ others-by-and s i p h n =
     let first = next-by-zeros s p h in
     let e : trailingZeros 32 s ≡ i = least-unique (first .first) (n .first) in
     rw (clears-lowest 32 s p h, e) (less-by-worth i s (n .first .holds))
+
+-- a mark is a digit of the number shifted down to it
+pub digit-at : (i s : ℕ) → marked s i ≡ eqb (s / 2 ^ i % 2) 1
+unfolding marked
+digit-at zero s = ap (λ x. eqb (x % 2) 1) (sym (div-one s))
+digit-at (suc i) s =
+    let twice : 2 * 2 ^ i ≡ 2 ^ suc i = omega (arith, pow-suc 2 i) in
+    digit-at i (s / 2) ∙ ap (λ x. eqb (x % 2) 1) (div-div-eq-div-mul s 2 (2 ^ i) ∙ ap (λ x. s / x) twice)
+
+-- two numbers have the ones in common that both have
+pub both-by-and : (a b : ℕ) → Both a b (bitAnd a b)
+unfolding marked
+both-by-and a b zero =
+    let low : bitAnd a b % 2 ≡ min (a % 2) (b % 2) = omega (arith, and-step a b) in
+    digit a
+    (λ e. digit b (λ f. rw (low, e, f)) (λ f. rw (low, e, f)))
+    (λ e. digit b (λ f. rw (low, e, f)) (λ f. rw (low, e, f)))
+both-by-and a b (suc j) =
+    let half : bitAnd a b / 2 ≡ bitAnd (a / 2) (b / 2) = omega (arith, and-step a b) in
+    rw half (both-by-and (a / 2) (b / 2) j)
 
 all-marked : (n j : ℕ) → j < n → marked (2 ^ n - 1) j ≡ true
 unfolding marked

@@ -3,7 +3,7 @@ ghost use mathlib.Core.Path.{_≡_};
 ghost use mathlib.Core.Bool.{true, false};
 ghost use Prim.Native.Nat.{ℕ, _≤_, _<_};
 ghost use Rattle.counting.specs.Sum.{count};
-ghost use Rattle.marks.specs.inside.Marks.{marked, Whole, Next, Less, More};
+ghost use Rattle.marks.specs.inside.Marks.{marked, Whole, Next, Both, Less, More};
 
 // All rows below n.
 pub fn whole(n: u32) -> u32
@@ -34,6 +34,21 @@ pub fn others(set: u32) -> u32
     ensures { λ r. ⌜ ((i : ℕ) → Next set i → Less set i r) ⌝ }
 {
     set & (set - 1)
+}
+
+// Whether row i is marked.
+pub fn has(set: u32, i: u32) -> bool
+    requires { ⌜ i < 32 ⌝ }
+    ensures { λ r. ⌜ r ≡ marked set i ⌝ }
+{
+    (set >> i) % 2 == 1
+}
+
+// The rows that are marked in two sets.
+pub fn both(a: u32, b: u32) -> u32
+    ensures { λ r. ⌜ Both a b r ⌝ }
+{
+    a & b
 }
 
 // How many marked rows stand before row i.

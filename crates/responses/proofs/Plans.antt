@@ -1,4 +1,4 @@
--- Laws of the set of rows above a rank and of the longest length below it, row by row.
+-- Laws of the longest length below a rank, row by row.
 use Prim.Native.Nat.{ℕ, pred, max, _+_, _≤_, _<_}
 use mathlib.Core.Path.{_≡_, refl, _∙_}
 use mathlib.Core.Bool.{Bool, true, false, _&&_, _||_}
@@ -15,39 +15,7 @@ use Rattle.counting.proofs.Sum.{given-yes, given-no}
 use Rattle.marks.proofs.Marks.{none}
 use Rattle.responses.specs.inside.Asked.{Above, Blocks}
 
-or-no : (b : Bool) → (b || false) ≡ b
-or-no true = refl
-or-no false = refl
-
 module _ (p : Plan) (r : ℕ) where
-  pub above-none : Above p 0 r 0
-  above-none j = rw (none j, le-ltb j 0 (omega arith))
-
-  -- the rows before i
-  module _ (i set : ℕ) (a : Above p i r set) where
-    -- row i is not among them
-    pub above-apart : marked set i ≡ false
-    above-apart = a i ∙ rw (le-ltb i i (omega arith))
-
-    -- another row stands before i where it stands before i + 1
-    others : (j : ℕ) → ¬ (j ≡ i) → marked set j ≡ (ltb j (i + 1) && above p r j)
-    others j e =
-        by-le i j
-        (λ l. a j ∙ rw (le-ltb j i l, le-ltb j (i + 1) (omega arith)))
-        (λ l. a j ∙ rw (lt-ltb j i l, lt-ltb j (i + 1) (omega arith)))
-
-    pub above-more : (more : ℕ) → p .rank i < r → More set i more → Above p (i + 1) r more
-    above-more more h m j =
-        by-eq j i
-        (λ e. m j ∙ rw (e, above-apart, eq-eqb i i refl, lt-ltb i (i + 1) (omega arith), lt-ltb (p .rank i) r h))
-        (λ e. m j ∙ rw (ne-eqb j i e) (or-no (marked set j) ∙ others j e))
-
-    pub above-same : r ≤ p .rank i → Above p (i + 1) r set
-    above-same h j =
-        by-eq j i
-        (λ e. rw (e, above-apart, lt-ltb i (i + 1) (omega arith), le-ltb (p .rank i) r h))
-        (others j)
-
   -- the longest length below, of the rows before i: a row blocks with its length
   unfoldable pub longest-in : ℕ → ℕ
   longest-in i = largest (λ j. given (below p r j) (p .len j)) i

@@ -4,9 +4,11 @@ use mathlib.Core.Logic.{⊎-elim}
 use mathlib.Core.Path.{_≡_}
 use native.Mathlib.Omega.{arith}
 use borrow.Author.Needs.{needs}
+use borrow.Author.Tests.{lt-ltb, le-ltb}
+use Rattle.marks.proofs.Where.{where-none, where-apart, where-more, where-same}
 use Rattle.tables.specs.Plan.{planOf}
+use Rattle.test.specs.Test.{above}
 use Rattle.responses.specs.inside.Asked.{Above}
-use Rattle.responses.proofs.Plans.{above-none, above-apart, above-more, above-same}
 use Rattle.responses.proofs.above_of.Statement.{statement}
 use Rattle.responses.proofs.above_of.Tie as tie
 
@@ -20,17 +22,17 @@ more-requires : tie.Need-more-requires Inv-loop μ-loop
 more-requires c κs =
     let l = c .before .before .before in
     let a = l .before .before .args in
-    (omega arith, above-apart (planOf (a .plan .now)) (a .rank) _ _ (l .loop .inv .1))
+    (omega arith, where-apart (above (planOf (a .plan .now)) (a .rank)) _ _ (l .loop .inv .1))
 
 loop-again : tie.Need-loop-again Inv-loop μ-loop
 loop-again c =
     let l = c .before .before .before in
     let a = l .before .before .args in
-    let p = planOf (a .plan .now) in (
+    let P = above (planOf (a .plan .now)) (a .rank) in (
       search needs,
       ⊎-elim
-          (λ m. rw (m .2) (above-more p (a .rank) _ _ (l .loop .inv .1) _ (m .0 .taken) (m .1 .ensures)))
-          (λ m. rw (m .1) (above-same p (a .rank) _ _ (l .loop .inv .1) (m .0 .left)))
+          (λ m. rw (m .2) (where-more P _ _ (l .loop .inv .1) _ (lt-ltb _ _ (m .0 .taken)) (m .1 .ensures)))
+          (λ m. rw (m .1) (where-same P _ _ (l .loop .inv .1) (le-ltb _ _ (m .0 .left))))
           (c .if1 .came),
     )
 
@@ -41,6 +43,6 @@ returns c =
 
 pub above-of-spec : {M : Type 1} → statement M
 above-of-spec = tie.close (tie.spec Inv-loop μ-loop
-    (λ c. (search needs, above-none (planOf (c .before .args .plan .now)) _)) (λ c. search needs)
+    (λ c. (search needs, where-none (above (planOf (c .before .args .plan .now)) _))) (λ c. search needs)
     (λ c. search needs) (λ c. search needs) (λ c. search needs) more-requires (λ c. search needs)
     (λ c. search needs) loop-again returns)

@@ -1,11 +1,10 @@
 -- What the functions of the response times ask for and answer.
 use Prim.Native.Nat.{ℕ, _*_, _≤_, _<_}
 use mathlib.Core.Path.{_≡_}
-use mathlib.Core.Bool.{true, false, _&&_}
+use mathlib.Core.Bool.{true, false}
 use mathlib.Core.List.{List}
-use lib.Dec.{ltb}
 use lib.ListN.{length, getD}
-use Rattle.marks.specs.inside.Marks.{marked}
+use Rattle.marks.specs.inside.Marks.{marked, Where}
 use Rattle.tables.specs.Table.{Table, Sound, most-rows}
 use Rattle.tables.specs.Plan.{Plan, WellFormed, plan-width, planOf}
 use Rattle.test.specs.Test.{horizon, BusyWithin, Active, above, blocking, ResponseOf}
@@ -27,7 +26,7 @@ pub record Ranked (tb : Table) (asks : List ℕ) (set b i q : ℕ) : Type 0 wher
 
 -- the set marks the rows below n of higher rank than r, and no others
 abbrev pub Above : Plan → ℕ → ℕ → ℕ → Type 0
-Above p n r set = (j : ℕ) → marked set j ≡ (ltb j n && above p r j)
+Above p n r set = Where (above p r) n set
 
 -- b is the blocking at rank r in every table of n rows
 abbrev pub Blocks : Plan → ℕ → ℕ → ℕ → Type 0
