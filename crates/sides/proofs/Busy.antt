@@ -12,11 +12,11 @@ use Rattle.sides.specs.inside.Found.{BusyOf, BusyFound}
 use Rattle.sides.specs.declared.periods.Busy.{Busy}
 use Rattle.sides.specs.declared.periods.Busy.the-variants.{At, Beyond}
 use Rattle.sides.proofs.Level.{busy-of-is, fixed-same}
-use Rattle.sides.proofs.Asking.{asking-all}
+use Rattle.sides.proofs.Asking.{asking-all, runs-all}
 
 module _ {tb : Table} {asks : List ℕ} (sound : Sound tb) (a : Asks tb asks) where
   same : (t : ℕ) → 1 ≤ t → t ≤ horizon → busy-of asks t ≡ busy-side tb t
-  same = busy-of-is (asking-all sound a) (sound-positive tb sound)
+  same t low high = busy-of-is (asking-all sound a) (runs-all sound a) (sound-positive tb sound) t low (omega arith)
 
   pub busy-asks : Small asks × (1 ≤ busy-of asks 1)
   busy-asks =

@@ -1,8 +1,8 @@
 -- Laws of a level from which a row is left out, the last one taking its place: what is summed over the rows that stay
 -- is what is summed over the others; and put back, the level is as it was.
-use Prim.Native.Nat.{ℕ, suc, _+_, _-_, _*_, _<_}
-use mathlib.Core.Path.{_≡_, refl, sym, ap, _∙_}
-use mathlib.Core.Bool.{Bool, true}
+use Prim.Native.Nat.{ℕ, suc, _+_, _-_, _*_, _≤_, _<_}
+use mathlib.Core.Path.{_≡_, refl, sym, ap, _∙_, fun-ext}
+use mathlib.Core.Bool.{Bool, true, false}
 use mathlib.Core.List.{List}
 use native.Mathlib.Omega.{arith}
 use lib.Dec.{eqb}
@@ -12,13 +12,14 @@ use borrow.Author.Tests.{eq-eqb, ne-eqb}
 use Rattle.counting.specs.Sum.{given, sum, count, without}
 use Rattle.counting.proofs.Cases.{by-bool, by-eq, by-le}
 use Rattle.counting.proofs.Sum.{sum-ext, sum-add, sum-delta, sum-without, sum-more, sum-zero, given-yes, given-no}
-use Rattle.counting.proofs.Sum.{without-elim}
+use Rattle.counting.proofs.Sum.{without-elim, is-without}
 use Rattle.tables.specs.Table.{most-rows}
 use Rattle.sides.specs.inside.Asks.{ask-width, many, run, inverse}
-use Rattle.sides.specs.inside.Level.{put, Packed}
+use Rattle.marks.specs.inside.Marks.{marked}
+use Rattle.sides.specs.inside.Level.{put, Packed, LeftOut, PutBack}
 use Rattle.sides.proofs.Pairs.{put-length, put-other, put-first, put-second}
 use Rattle.sides.proofs.Pack.{over-one, packed-row}
-use Rattle.sides.proofs.Asking.{Holding}
+use Rattle.sides.proofs.Asking.{Holding, packed-holding}
 
 -- the same row put at the same place, and the same row left out
 pub put-same : {l k : List ℕ} {p q : ℕ} (c i : ℕ) → l ≡ k → p ≡ q → put l p c i ≡ put k q c i
@@ -144,3 +145,39 @@ module _ {asks : List ℕ} {P : ℕ → Bool} {before level : List ℕ} {m : ℕ
       (λ z. rw z (put-second left p (run asks i) (inverse asks i) (rw l′ here) ∙ sym (at (λ _ v. v))))
       (λ z. put-other left p (run asks i) (inverse asks i) k y z
       ∙ put-other level p (run level last) (inverse level last) k y z)))
+
+-- whether row i is in the level or not
+module _ (set : ℕ) {asks before level : List ℕ} {m : ℕ} (w : Packed asks (marked set) before level m)
+    (whole : length level ≡ ask-width * most-rows) (i : ℕ) (l : i < many asks) where
+  pub place-within : marked set i ≡ true → count (marked set) i < m
+  place-within = place-inside w whole i l
+
+  module _ {left : List ℕ} {r : ℕ} (o : LeftOut set i level m left r) where
+    pub left-whole : length left ≡ ask-width * most-rows
+    left-whole =
+        by-bool (marked set i)
+        (λ e. ap length (o .inside e .1) ∙ put-length level _ _ _ ∙ whole)
+        (λ e. ap length (o .outside e .1) ∙ whole)
+
+    pub left-few : r ≤ most-rows
+    left-few =
+        by-bool (marked set i)
+        (λ e. omega (arith, o .inside e .0, w .few))
+        (λ e. omega (arith, o .outside e .0, w .few))
+
+    absent : marked set i ≡ false → marked set ≡ without (marked set) i
+    absent e = fun-ext (λ j. is-without (marked set) i j (marked set j) (λ q. ap (marked set) q ∙ e) (λ _. refl))
+
+    -- the rows that stay are the others
+    pub left-others : Holding asks (without (marked set) i) left r
+    left-others =
+        by-bool (marked set i)
+        (λ e. rw (o .inside e .1, o .inside e .0) (left-holding w whole i l e))
+        (λ e. rw (o .outside e .1, o .outside e .0, ← absent e) (packed-holding w))
+
+    -- put back, the level is as it was
+    pub back-as-was : {back : List ℕ} → PutBack set i asks left back → back ≡ level
+    back-as-was b =
+        by-bool (marked set i)
+        (λ e. b .inside e ∙ put-same _ _ (o .inside e .1) refl ∙ back-same w whole i l e)
+        (λ e. b .outside e ∙ o .outside e .1)

@@ -6,13 +6,14 @@ ghost use mathlib.Core.Path.{_≡_};
 ghost use mathlib.Core.Bool.{true};
 ghost use Prim.Native.Nat.{ℕ, _+_, _-_, _*_, _≤_, _<_};
 ghost use lib.ListN.{length};
-ghost use Rattle.marks.specs.inside.Marks.{marked};
+ghost use Rattle.counting.specs.Sum.{count};
+ghost use Rattle.marks.specs.inside.Marks.{marked, Where};
 ghost use Rattle.tables.specs.Table.{Sound, most, most-rows};
 ghost use Rattle.tables.specs.inside.Rows.{tableIn};
 ghost use Rattle.test.specs.Test.{horizon};
-ghost use Rattle.sides.specs.inside.Asks.{ask-width, many, run, inverse, AsksFront};
-ghost use Rattle.sides.specs.inside.Level.{put, runs-of, part-of, later, busy-of, active-of, start-of};
-ghost use Rattle.sides.specs.inside.Level.{Small, Packed};
+ghost use Rattle.sides.specs.inside.Asks.{ask-width, many, again, AsksFront};
+ghost use Rattle.sides.specs.inside.Level.{runs-of, part-of, later, busy-of, active-of, start-of};
+ghost use Rattle.sides.specs.inside.Level.{Small, Packed, LeftOut, PutBack};
 use tables::MOST_ROWS;
 use tables::Row;
 
@@ -62,33 +63,56 @@ pub fn level_of(asks: &[u64], set: u32, level: &mut [u64]) -> usize
     m
 }
 
-// A level of m rows without the one at p, whose place the last one takes: the first m - 1 are the others.
-pub fn leave_out(level: &mut [u64], m: usize, p: usize)
-    requires { ⌜ (p < m) × (m ≤ most-rows) × (length (now level) ≡ ask-width * most-rows) ⌝ }
-    ensures { λ _. ⌜ now (level .exit) ≡ put (now (level .entry)) p (run (now (level .entry)) (m - 1))
-        (inverse (now (level .entry)) (m - 1)) ⌝ }
+// The rows whose spacing is below t: those that are released again before t, where they are released at 0.
+pub fn again_of(rows: [Row; 32], n: usize, t: u32) -> u32
+    requires { ⌜ n ≤ most-rows ⌝ }
+    ensures { λ r. ⌜ Where (again (tableIn rows n) t) n r ⌝ }
 {
-    let from = ASK_WIDTH * (m - 1);
-    let to = ASK_WIDTH * p;
-    let run = level[from];
-    let inverse = level[from + 1];
-    level[to] = run;
-    level[to + 1] = inverse;
+    let mut set: u32 = 0;
+    let mut i: usize = 0;
+    while i < n {
+        let row = rows[i];
+        if row.t < t {
+            set = marks::more(set, i as u32);
+        }
+        i += 1;
+    }
+    set
 }
 
-// The level with what row i asks with at p again.
-pub fn put_back(level: &mut [u64], p: usize, asks: &[u64], i: usize)
-    requires { ⌜ (p < most-rows) × (length (now level) ≡ ask-width * most-rows) × (i < many (now asks))
-        × (many (now asks) ≤ most-rows) ⌝ }
-    ensures { λ _. ⌜ now (level .exit) ≡ put (now (level .entry)) p (run (now (asks .entry)) i)
-        (inverse (now (asks .entry)) i) ⌝ }
+// A level of m rows, those of the set, without row i, whose place the last one takes; and how many are left. A row that
+// is not of the set is not in the level.
+pub fn leave_out(level: &mut [u64], m: usize, set: u32, i: u32) -> usize
+    requires { ⌜ (i < most-rows) × (m ≤ most-rows) × (length (now level) ≡ ask-width * most-rows)
+        × (marked set i ≡ true → count (marked set) i < m) ⌝ }
+    ensures { λ r. ⌜ LeftOut set i (now (level .entry)) m (now (level .exit)) r ⌝ }
 {
-    let from = ASK_WIDTH * i;
-    let to = ASK_WIDTH * p;
-    let run = asks[from];
-    let inverse = asks[from + 1];
-    level[to] = run;
-    level[to + 1] = inverse;
+    if marks::has(set, i) {
+        let from = ASK_WIDTH * (m - 1);
+        let to = ASK_WIDTH * (marks::place(set, i) as usize);
+        let run = level[from];
+        let inverse = level[from + 1];
+        level[to] = run;
+        level[to + 1] = inverse;
+        return m - 1;
+    }
+    m
+}
+
+// The level with what row i asks with at its place again.
+pub fn put_back(level: &mut [u64], set: u32, asks: &[u64], i: u32)
+    requires { ⌜ (i < many (now asks)) × (many (now asks) ≤ most-rows) × (length (now level) ≡ ask-width * most-rows)
+        × (count (marked set) i < most-rows) ⌝ }
+    ensures { λ _. ⌜ PutBack set i (now (asks .entry)) (now (level .entry)) (now (level .exit)) ⌝ }
+{
+    if marks::has(set, i) {
+        let from = ASK_WIDTH * (i as usize);
+        let to = ASK_WIDTH * (marks::place(set, i) as usize);
+        let run = asks[from];
+        let inverse = asks[from + 1];
+        level[to] = run;
+        level[to + 1] = inverse;
+    }
 }
 
 // The runs of the level's rows: what they ask for in the first tick.

@@ -2,7 +2,9 @@
 -- division would.
 use Prim.Native.Nat.{ℕ, _+_, _*_, _/_, _≤_, _<_}
 use mathlib.Core.Path.{_≡_}
+use mathlib.Core.Bool.{Bool}
 use mathlib.Core.List.{List}
+use lib.Dec.{ltb}
 use lib.ListN.{length, getD, take}
 use Rattle.tables.specs.Table.{Table, most-rows}
 
@@ -27,6 +29,10 @@ run asks p = getD asks (ask-width * p) 0
 
 abbrev pub inverse : List ℕ → ℕ → ℕ
 inverse asks p = getD asks (ask-width * p + 1) 0
+
+-- row j is released again before t, where it is released at 0
+abbrev pub again : Table → ℕ → ℕ → Bool
+again tb t j = ltb (tb .T j) t
 
 -- the list is what the rows of the table ask with
 pub record Asks (tb : Table) (asks : List ℕ) : Type 0 where

@@ -1,10 +1,11 @@
 -- A level: what some rows ask with, packed at the front of an array and lent as a slice. The right sides over it.
 use Prim.Native.Nat.{ℕ, _+_, _-_, _*_, _/_, _≤_, _<_}
 use mathlib.Core.Path.{_≡_}
-use mathlib.Core.Bool.{Bool}
+use mathlib.Core.Bool.{Bool, true, false}
 use mathlib.Core.List.{List}
 use lib.ListN.{getD, set}
 use Rattle.counting.specs.Sum.{given, sum, count}
+use Rattle.marks.specs.inside.Marks.{marked}
 use Rattle.tables.specs.Table.{most-rows, most}
 use Rattle.sides.specs.inside.Asks.{ask-width, scale, inverse-of, many, run, inverse}
 
@@ -48,3 +49,15 @@ pub record Packed (asks : List ℕ) (P : ℕ → Bool) (before level : List ℕ)
   pub same : (f : ℕ → ℕ → ℕ → ℕ) → sum (λ p. f p (run level p) (inverse level p)) m
       ≡ sum (λ j. given (P j) (f (count P j) (run asks j) (inverse asks j))) (many asks)
   pub rest : (k : ℕ) → ask-width * m ≤ k → getD level k 0 ≡ getD before k 0
+
+-- of a level of m rows, those of the set, row i is left out, its place taken by the last one, and r are left; a row that
+-- is not of the set leaves the level as it is
+pub record LeftOut (set i : ℕ) (level : List ℕ) (m : ℕ) (left : List ℕ) (r : ℕ) : Type 0 where
+  pub inside : marked set i ≡ true →
+      (r ≡ m - 1) × (left ≡ put level (count (marked set) i) (run level (m - 1)) (inverse level (m - 1)))
+  pub outside : marked set i ≡ false → (r ≡ m) × (left ≡ level)
+
+-- what row i asks with is at its place again, where it is of the set
+pub record PutBack (set i : ℕ) (asks left back : List ℕ) : Type 0 where
+  pub inside : marked set i ≡ true → back ≡ put left (count (marked set) i) (run asks i) (inverse asks i)
+  pub outside : marked set i ≡ false → back ≡ left
