@@ -12,10 +12,10 @@ use Rattle.counting.proofs.Cases.{or-cases, or-right}
 use Rattle.counting.proofs.Sum.{is-without}
 use Rattle.marks.specs.inside.Marks.{marked, More}
 use Rattle.tables.specs.Table.{Table}
-use Rattle.test.specs.Test.{Active, active-side}
+use Rattle.test.specs.Test.{horizon, upto, load, Active, active-side}
 use Rattle.test.proofs.Load.{Positive, sound-positive}
 use Rattle.sides.specs.inside.Asks.{many}
-use Rattle.sides.specs.inside.Level.{runs-of, active-of}
+use Rattle.sides.specs.inside.Level.{active-of}
 use Rattle.sides.specs.inside.Found.{Fixed, FixedWithin}
 use Rattle.sides.proofs.Level.{Asking}
 use Rattle.sides.proofs.Lower.{active-first, active-within, active-found}
@@ -57,7 +57,8 @@ module _ {tb : Table} {asks : List ℕ} {set b i q : ℕ} (r : Ranked tb asks se
         (λ e. sym (m j ∙ rw (ne-eqb j i e) (or-false (marked set j)))))
 
     -- over a level of it and the rows above
-    module _ {level : List ℕ} (a : Asking tb (marked all) level) {first-asked : ℕ} (f : first-asked ≡ b + runs-of level)
+    module _ {level : List ℕ} (a : Asking tb (marked all) (horizon + 1) level) {first-asked : ℕ}
+      (f : first-asked ≡ b + load upto tb (marked all) 0)
       where
         abbrev alone : Active tb (without (marked all) i) b i (r .period)
         alone = rw (← others) (r .active)
@@ -66,7 +67,7 @@ module _ {tb : Table} {asks : List ℕ} {set b i q : ℕ} (r : Ranked tb asks se
         first = rw others (active-first a positive b i f (r .row) own)
 
         pub within : FixedWithin (active-of level first-asked) 1 first-asked
-        within = active-within a positive b i f (r .row) own (r .within) alone
+        within = active-within a positive b i f (r .row) own (omega (arith, r .within)) (r .within) alone
 
         pub found : {t : ℕ} → Fixed (active-of level first-asked) 1 t → t ≡ r .period
-        found = active-found a positive b i f (r .row) own (r .within) alone
+        found = active-found a positive b i f (r .row) own (omega (arith, r .within)) (r .within) alone

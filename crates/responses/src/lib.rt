@@ -56,14 +56,13 @@ fn response(
     let first = b + sides::runs_of(&level[..ASK_WIDTH * all]);
     let period = sides::periods::active_period(&level[..ASK_WIDTH * all], first);
     let jobs = counting::round_up(period as u64, spacing as u64) as u32;
-    let at = marks::place(with_own, i as u32) as usize;
-    sides::leave_out(level, all, at);
+    let higher = sides::leave_out(level, all, with_own, i as u32);
     let mut largest: u32 = 0;
     let mut low = first - q;
     let mut k: u32 = 0;
     while k < jobs {
         let base = sides::base_of(rows[i], first, q, k);
-        let s = start(&level[..ASK_WIDTH * (all - 1)], base, low);
+        let s = start(&level[..ASK_WIDTH * higher], base, low);
         let took = s + q - k * spacing;
         if largest < took {
             largest = took;

@@ -11,16 +11,15 @@ use lib.Seq.{length-take-le}
 use borrow.Author.Needs.{needs}
 use Rattle.tables.specs.Table.{Table, Within, most-rows}
 use Rattle.tables.specs.inside.Rows.{tableIn}
-use Rattle.test.specs.Test.{horizon, jobs, Start, active-side}
+use Rattle.test.specs.Test.{horizon, upto, load, jobs, Start, active-side}
 use Rattle.counting.specs.Sum.{count, without}
 use Rattle.marks.specs.inside.Marks.{marked}
-use Rattle.sides.specs.inside.Asks.{ask-width, many, inverse, run as run-of}
-use Rattle.sides.specs.inside.Level.{put, runs-of, active-of}
+use Rattle.sides.specs.inside.Asks.{ask-width, many}
+use Rattle.sides.specs.inside.Level.{active-of}
 use Rattle.sides.specs.inside.Found.{FixedWithin}
-use Rattle.sides.proofs.Pairs.{put-length}
 use Rattle.sides.proofs.Level.{Asking}
-use Rattle.sides.proofs.Asking.{Holding, asking-held, asking-packed}
-use Rattle.sides.proofs.Left.{out-same, place-inside, left-holding}
+use Rattle.sides.proofs.Asking.{asking-held, asking-packed, all-again, runs-packed}
+use Rattle.sides.proofs.Left.{place-within, left-whole, left-few, left-others}
 use Rattle.sides.proofs.Lower.{start-within, start-found}
 use Rattle.responses.proofs.Jobs.{Job, jobs-few, length-first, base-within}
 use Rattle.responses.proofs.Jobs.{job-exists, job-base, job-known, next-low}
@@ -30,13 +29,13 @@ use Rattle.responses.proofs.response.Statement.{statement}
 use Rattle.responses.proofs.response.Tie as tie
 
 abbrev Inv-loop : tie.InvT-loop
-Inv-loop asks level above b i q rows run spacing with all first period jobs at largest₀ low₀ k₀ largest low k =
+Inv-loop asks level above b i q rows run spacing with all first period jobs higher largest₀ low₀ k₀ largest low k =
     let tb = tableIn rows (many asks) in
     let P = marked above in
     Passed tb P b i q k largest × (k ≤ jobs) × ((s : ℕ) → Start tb P b i q (suc k) s → low ≤ s)
 
 abbrev μ-loop : tie.MeasureT-loop
-μ-loop asks level above b i q rows run spacing with all first period jobs at largest₀ low₀ k₀ largest low k =
+μ-loop asks level above b i q rows run spacing with all first period jobs higher largest₀ low₀ k₀ largest low k =
     jobs - k
 
 -- row i
@@ -74,8 +73,11 @@ module _ (c : tie.After-level-of Inv-loop μ-loop) where
   abbrev front : List ℕ
   front = take (ask-width * c .level-of .result) all
 
-  asking : Asking (tb S) (marked more) front
-  asking = asking-packed (S .pre .0 .sound) (S .pre .0 .asked) all-whole (c .level-of .ensures)
+  asking : Asking (tb S) (marked more) (horizon + 1) front
+  asking =
+      let p = S .pre .0 in
+      asking-packed (p .sound) (p .asked) (omega arith) (all-again (p .sound) (p .asked) (marked more)) all-whole
+      (c .level-of .ensures)
 
   -- the row has its place in it
   row-inside : S .args .i < many (S .args .asks .now)
@@ -85,7 +87,7 @@ module _ (c : tie.After-level-of Inv-loop μ-loop) where
   row-marked = own (S .pre .0) more (c .before .before .more .ensures)
 
   place-fits : count (marked more) (S .args .i) < c .level-of .result
-  place-fits = place-inside (c .level-of .ensures) all-whole (S .args .i) row-inside row-marked
+  place-fits = place-within more (c .level-of .ensures) all-whole (S .args .i) row-inside row-marked
 
 -- what is asked for in the first tick
 module _ (f : tie.After-runs-of Inv-loop μ-loop) where
@@ -95,8 +97,10 @@ module _ (f : tie.After-runs-of Inv-loop μ-loop) where
   abbrev asked : ℕ
   asked = S W .args .b + f .runs-of .result
 
-  asks-runs : asked ≡ S W .args .b + runs-of (front W)
-  asks-runs = omega (arith, f .runs-of .ensures)
+  asks-runs : asked ≡ S W .args .b + load upto (tb (S W)) (marked (more W)) 0
+  asks-runs =
+      let p = S W .pre .0 in
+      omega (arith, f .runs-of .ensures, runs-packed (p .sound) (p .asked) (all-whole W) (W .level-of .ensures))
 
   first-is : let s = S W in asked ≡ active-side (tb s) (P s) (s .args .b) (s .args .i) 1
   first-is = first (S W .pre .0) (more W) (W .before .before .more .ensures) (asking W) asks-runs
@@ -133,7 +137,7 @@ module _ (r : tie.After-round-up Inv-loop μ-loop) where
 -- the level of the rows above: the row left out of it
 module _ (c : tie.After-leave-out Inv-loop μ-loop) where
   abbrev M : tie.After-round-up Inv-loop μ-loop
-  M = c .before .before .before
+  M = c .before .before
 
   abbrev A : tie.After-active-period Inv-loop μ-loop
   A = M .before
@@ -144,32 +148,27 @@ module _ (c : tie.After-leave-out Inv-loop μ-loop) where
   abbrev Z : tie.Start Inv-loop μ-loop
   Z = S O
 
-  abbrev last : ℕ
-  last = O .level-of .result - 1
+  abbrev left : List ℕ
+  left = c .leave-out .last .0
 
-  abbrev higher : List ℕ
-  higher = c .leave-out .last .0
+  whole : length left ≡ ask-width * most-rows
+  whole = left-whole (more O) (O .level-of .ensures) (all-whole O) (Z .args .i) (row-inside O) (c .leave-out .ensures)
 
-  left-is : higher ≡ put (all O) (count (marked (more O)) (Z .args .i)) (run-of (all O) last) (inverse (all O) last)
-  left-is = c .leave-out .ensures ∙ out-same {k = all O} last refl (c .before .before .place .ensures)
+  few-above : c .leave-out .result ≤ most-rows
+  few-above = left-few (more O) (O .level-of .ensures) (all-whole O) (Z .args .i) (row-inside O) (c .leave-out .ensures)
 
-  whole : length higher ≡ ask-width * most-rows
-  whole =
-      ap length left-is
-      ∙ put-length (all O) (count (marked (more O)) (Z .args .i)) (run-of (all O) last) (inverse (all O) last)
-      ∙ all-whole O
+  above-fits : ask-width * c .leave-out .result ≤ length left
+  above-fits = omega (arith, few-above, whole)
 
-  above-fits : ask-width * last ≤ length higher
-  above-fits = omega (arith, O .level-of .ensures .few, whole)
-
-  above-asking : Asking (tb Z) (P Z) (take (ask-width * last) higher)
+  above-asking : Asking (tb Z) (P Z) (horizon + 1) (take (ask-width * c .leave-out .result) left)
   above-asking =
+      let p = Z .pre .0 in
       let i = Z .args .i in
-      let held = left-holding (O .level-of .ensures) (all-whole O) i (row-inside O) (row-marked O) in
-      subst (λ Q. Asking (tb Z) Q (take (ask-width * last) higher))
-      (sym (others (Z .pre .0) (more O) (O .before .before .more .ensures)))
-      (asking-held (Z .pre .0 .sound) (Z .pre .0 .asked) whole
-      (subst (λ l. Holding (Z .args .asks .now) (without (marked (more O)) i) l last) (sym left-is) held))
+      let held = left-others (more O) (O .level-of .ensures) (all-whole O) i (row-inside O) (c .leave-out .ensures) in
+      subst (λ Q. Asking (tb Z) Q (horizon + 1) (take (ask-width * c .leave-out .result) left))
+      (sym (others p (more O) (O .before .before .more .ensures)))
+      (asking-held (p .sound) (p .asked) (omega arith) (all-again (p .sound) (p .asked) (without (marked (more O)) i))
+      whole held)
 
 -- a job of the active period
 module _ (c : tie.In-loop Inv-loop μ-loop) where
@@ -192,6 +191,9 @@ module _ (c : tie.In-loop Inv-loop μ-loop) where
   short : exists .0 ≤ horizon
   short = omega (arith, exists .2, Z H .pre .0 .within)
 
+  before-bound : exists .0 < horizon + 1
+  before-bound = omega (arith, short)
+
 -- its base
 based : (c : tie.After-base-of Inv-loop μ-loop) → let j = c .before .before in let x = Z (H j) in
     c .base-of .result ≡ active-side (tb x) (P x) (x .args .b) (x .args .i) 1 + k j * tb x .C (x .args .i) - x .args .q
@@ -212,7 +214,7 @@ module _ (c : tie.After-start Inv-loop μ-loop) where
       let p = X .pre .0 in
       subst (Start (tb X) (P X) (a .b) (a .i) (a .q) (suc (k J)))
       (sym (start-found (above-asking (H J)) (positive p) (a .b) (a .i) (a .q) (k J) (p .row) (p .most)
-      (based (c .before .before)) (short J) (e .1) (c .start .ensures))) (e .1)
+      (based (c .before .before)) (before-bound J) (short J) (e .1) (c .start .ensures))) (e .1)
 
   job : Job (tb X) (X .args .i) (X .args .q) (k J) (c .start .result)
   job = job-known (working (X .pre .0)) (k J) (counts J) starts
@@ -230,9 +232,9 @@ active-period-requires c κs = let f = c .before in (asking (W f) .small, within
 
 leave-out-requires : tie.Need-leave-out-requires Inv-loop μ-loop
 leave-out-requires c κs =
-    let p = c .before in
-    let v = W (F (p .before .before)) in
-    (omega (arith, p .place .ensures, place-fits v), v .level-of .ensures .few, all-whole v)
+    let w = W (F (c .before .before)) in
+    let p = S w .pre .0 in
+    (omega (arith, p .row, p .sound .few), w .level-of .ensures .few, all-whole w, λ _. place-fits w)
 
 loop-holds : tie.Need-loop-holds Inv-loop μ-loop
 loop-holds c =
@@ -259,7 +261,7 @@ start-requires c κs =
     let x = Z (H j) in
     let p = x .pre .0 in
     let from = start-within a (positive p) (x .args .b) (x .args .i) (x .args .q) (k j) (p .row) (p .most)
-    (based (c .before)) (short j) (e .1) in
+    (based (c .before)) (before-bound j) (short j) (e .1) in
     (a .small, from (j .before .loop .inv .2 (e .0) (e .1)))
 
 loop-again : tie.Need-loop-again Inv-loop μ-loop
@@ -300,15 +302,13 @@ response-spec = tie.close (tie.spec Inv-loop μ-loop
     (λ c. search needs) (λ c. omega (arith, spacing (S (W (F c))) .high))
     (λ c κs. let t = spacing (S (W (F c))) in (t .low, omega (arith, same c, S (W (F c)) .pre .0 .within, t .high)))
     (λ c. omega (arith, jobs-within c))
-    (λ c. let p = S (W (F (c .before))) .pre .0 in omega (arith, p .row, p .sound .few))
-    (λ c κs. let p = S (W (F (c .before))) .pre .0 in omega (arith, p .row, p .sound .few)) (λ c. search needs)
+    (λ c. let p = S (W (F (c .before .before))) .pre .0 in omega (arith, p .row, p .sound .few))
     leave-out-requires
     (λ c. omega (arith, first-is (F (A (c .before .before))), length-first (working (Z (c .before .before) .pre .0))))
     loop-holds
     (λ c. let p = Z (H c) .pre .0 in omega (arith, p .row, p .sound .few))
     (λ c. let p = Z (H c) .pre .0 in omega (arith, p .row, p .sound .few))
-    base-of-requires (λ c. omega (arith, place-fits (O (H (c .before .before)))))
-    (λ c. omega (arith, O (H (c .before .before)) .level-of .ensures .few))
+    base-of-requires (λ c. omega (arith, few-above (H (c .before .before))))
     (λ c. above-fits (H (c .before .before)))
     (λ c. sym (length-take-le _ _ (above-fits (H (c .before .before .before))))) start-requires
     (λ c. omega (arith, job c .ends))
