@@ -41,23 +41,26 @@ fn next_length(low: u32, high: u32, cap: u32) -> u32
     low + (high - low) / 2
 }
 
-// The rows to try are given beside the unplaced ones, and room for their level is lent. The active period, and what is
-// asked for in its first tick, are the same for every row of the level. No row is tried after one that takes the rank
-// with length 1.
+// The rows to try are given beside the unplaced ones, with the runs of these added up; and room for their level is lent,
+// which holds those that are released again in a busy period. The active period, and what is asked for in its first
+// tick, are the same for every row of the level. No row is tried after one that takes the rank with length 1.
 pub fn choose(
     rows: [Row; 32],
     asks: &[u64],
     level: &mut [u64],
     unplaced: u32,
+    again: u32,
     tried: u32,
     blocking: u32,
+    runs: u32,
 ) -> Pick
-    requires { ⌜ Searchable (tableIn rows (many (now asks))) (now asks) unplaced tried blocking
+    requires { ⌜ Searchable (tableIn rows (many (now asks))) (now asks) unplaced again tried blocking runs
         × (length (now level) ≡ ask-width * most-rows) ⌝ }
     ensures { λ r. ⌜ Picked (tableIn rows (many (now (asks .entry)))) (marked unplaced) blocking (marked tried) r ⌝ }
 {
-    let all = sides::level_of(asks, unplaced, level);
-    let first = blocking + sides::runs_of(&level[..ASK_WIDTH * all]);
+    let packed = marks::both(unplaced, again);
+    let all = sides::level_of(asks, packed, level);
+    let first = blocking + runs;
     let period = sides::periods::active_period(&level[..ASK_WIDTH * all], first);
     let mut row: u32 = 0;
     let mut best: u32 = 0;
@@ -67,8 +70,7 @@ pub fn choose(
         let i = marks::next(rest);
         rest = marks::less(rest, i);
         // The others stand above it while it is tried: in the level the last one takes its place.
-        let at = marks::place(unplaced, i) as usize;
-        sides::leave_out(level, all, at);
+        let above = sides::leave_out(level, all, packed, i);
         let own = rows[i as usize];
         let c = own.c;
         let t = own.t;
@@ -93,7 +95,7 @@ pub fn choose(
                     if due < s + len {
                         break 'jobs false;
                     }
-                    let next = sides::start_side(&level[..ASK_WIDTH * (all - 1)], base, s);
+                    let next = sides::start_side(&level[..ASK_WIDTH * above], base, s);
                     if next == s {
                         break s;
                     }
@@ -116,7 +118,7 @@ pub fn choose(
             }
             len = next_length(low, high, cap);
         }
-        sides::put_back(level, at, asks, i as usize);
+        sides::put_back(level, packed, asks, i);
         if high <= cap {
             row = i;
             best = high;

@@ -101,8 +101,8 @@ pub fn leave_out(level: &mut [u64], m: usize, set: u32, i: u32) -> usize
 
 // The level with what row i asks with at its place again.
 pub fn put_back(level: &mut [u64], set: u32, asks: &[u64], i: u32)
-    requires { ⌜ (i < many (now asks)) × (many (now asks) ≤ most-rows) × (length (now level) ≡ ask-width * most-rows)
-        × (count (marked set) i < most-rows) ⌝ }
+    requires { ⌜ (i < many (now asks)) × (many (now asks) ≤ most-rows)
+        × (length (now level) ≡ ask-width * most-rows) ⌝ }
     ensures { λ _. ⌜ PutBack set i (now (asks .entry)) (now (level .entry)) (now (level .exit)) ⌝ }
 {
     if marks::has(set, i) {

@@ -2,7 +2,7 @@
 -- Lengths or Trial.
 use Prim.Native.Nat.{ℕ, suc, _≤_, _<_, _+_, _*_, _-_}
 use mathlib.Core.Path.{_≡_, refl, sym, ap, _∙_, subst}
-use mathlib.Core.Bool.{Bool, true, false}
+use mathlib.Core.Bool.{Bool, true, false, _&&_}
 use mathlib.Core.List.{List}
 use mathlib.Core.Logic.{_⊎_, inl, inr, ⊎-elim}
 use native.Mathlib.Omega.{arith}
@@ -11,8 +11,8 @@ use lib.Count.{trailingZeros}
 use lib.ListN.{length, take}
 use lib.Seq.{length-take-le}
 use borrow.Author.Needs.{needs}
-use Rattle.counting.specs.Sum.{without, count}
-use Rattle.counting.proofs.Cases.{not-both}
+use Rattle.counting.specs.Sum.{without}
+use Rattle.counting.proofs.Cases.{not-both, and-left}
 use Rattle.counting.proofs.Up.{up-le, lt-up}
 use Rattle.marks.specs.inside.Marks.{marked}
 use Rattle.marks.proofs.Marks.{next-by-zeros}
@@ -20,19 +20,18 @@ use Rattle.tables.specs.Table.{Table, Within, most, most-rows}
 use Rattle.tables.specs.Plan.{cap}
 use Rattle.tables.specs.inside.Rows.{tableIn}
 use Rattle.tables.proofs.Plan.{cap-is, cap-run}
-use Rattle.test.specs.Test.{horizon, upto, jobs, Active, active-side, start-side, Response}
+use Rattle.test.specs.Test.{horizon, upto, load, jobs, Active, active-side, start-side, Response}
 use Rattle.test.proofs.Starts.{released-within}
-use Rattle.sides.specs.inside.Asks.{ask-width, many, run, inverse}
-use Rattle.sides.specs.inside.Level.{put, runs-of, active-of, start-of}
+use Rattle.sides.specs.inside.Asks.{ask-width, many, again}
+use Rattle.sides.specs.inside.Level.{active-of, start-of, LeftOut}
 use Rattle.sides.specs.inside.Found.{FixedWithin}
-use Rattle.sides.proofs.Pairs.{put-length}
 use Rattle.sides.proofs.Level.{Asking, start-of-is}
-use Rattle.sides.proofs.Asking.{Holding, asking-held, asking-packed}
-use Rattle.sides.proofs.Left.{put-same, out-same, place-inside, left-holding, back-same}
+use Rattle.sides.proofs.Asking.{asking-held, asking-packed}
+use Rattle.sides.proofs.Left.{place-within, left-whole, left-few, left-others, back-as-was}
 use Rattle.responses.proofs.Jobs.{Working, jobs-few, length-first, base-within}
 use Rattle.choice.specs.Choice.{Fits}
 use Rattle.search.proofs.Period.{positive, period-within, period-first, period-exists}
-use Rattle.search.proofs.Period.{period-found}
+use Rattle.search.proofs.Period.{period-found, kept-without}
 use Rattle.search.proofs.Trial.{Trial, trial-first, trial-within, trial-again, trial-misses, trial-after}
 use Rattle.search.proofs.Trial.{trial-next, trial-passes}
 use Rattle.search.proofs.Lengths.{Narrowed, narrowed-first, narrowed-fits, narrowed-misses}
@@ -42,40 +41,40 @@ use Rattle.search.proofs.choose.Statement.{statement}
 use Rattle.search.proofs.choose.Tie as tie
 
 abbrev Inv-loop : tie.InvT-loop
-Inv-loop asks level unplaced tried b rows all first period row best response rest i at own c t cap low
+Inv-loop asks level unplaced repeats tried b runs rows packed all first period row best response rest i above own c t cap low
     high time len k largest s₀ released due base s =
     Trial (tableIn rows (many asks)) (without (marked unplaced) i) b i len period k s largest
 
 abbrev μ-loop : tie.MeasureT-loop
-μ-loop asks level unplaced tried b rows all first period row best response rest i at own c t cap low
+μ-loop asks level unplaced repeats tried b runs rows packed all first period row best response rest i above own c t cap low
     high time len k largest s₀ released due base s = horizon + 1 - s
 
 abbrev Inv-jobs : tie.InvT-jobs
-Inv-jobs asks level unplaced tried b rows all first period row best response rest i at own c t cap low
+Inv-jobs asks level unplaced repeats tried b runs rows packed all first period row best response rest i above own c t cap low
     high time len k₀ largest₀ s₀ k largest s =
     Trial (tableIn rows (many asks)) (without (marked unplaced) i) b i len period k s largest
 
 abbrev μ-jobs : tie.MeasureT-jobs
-μ-jobs asks level unplaced tried b rows all first period row best response rest i at own c t cap low
+μ-jobs asks level unplaced repeats tried b runs rows packed all first period row best response rest i above own c t cap low
     high time len k₀ largest₀ s₀ k largest s =
     jobs (tableIn rows (many asks)) (without (marked unplaced) i) b i period + 1 - k
 
 abbrev Inv-lengths : tie.InvT-lengths
-Inv-lengths asks level unplaced tried b rows all first period row best response rest i at own c t cap low₀
+Inv-lengths asks level unplaced repeats tried b runs rows packed all first period row best response rest i above own c t cap low₀
     high₀ time₀ len₀ low high time len =
     Narrowed (tableIn rows (many asks)) (without (marked unplaced) i) b i cap low high time
     × (low < high → (low ≤ len) × (len < high))
 
 abbrev μ-lengths : tie.MeasureT-lengths
-μ-lengths asks level unplaced tried b rows all first period row best response rest i at own c t cap low₀
+μ-lengths asks level unplaced repeats tried b runs rows packed all first period row best response rest i above own c t cap low₀
     high₀ time₀ len₀ low high time len = high - low
 
 abbrev Inv-rows : tie.InvT-rows
-Inv-rows asks level₀ unplaced tried b rows all first period row₀ best₀ response₀ rest₀ level row best response rest =
+Inv-rows asks level₀ unplaced repeats tried b runs rows packed all first period row₀ best₀ response₀ rest₀ level row best response rest =
     Seen (tableIn rows (many asks)) (marked unplaced) b (marked tried) row best response rest × (level ≡ level₀)
 
 abbrev μ-rows : tie.MeasureT-rows
-μ-rows asks level₀ unplaced tried b rows all first period row₀ best₀ response₀ rest₀ level row best response rest =
+μ-rows asks level₀ unplaced repeats tried b runs rows packed all first period row₀ best₀ response₀ rest₀ level row best response rest =
     rest
 
 -- a place, or a need, under these invariants
@@ -98,10 +97,22 @@ module _ (s : Under tie.Start) where
   some : U (trailingZeros 32 (s .args .unplaced)) ≡ true
   some = next-by-zeros (s .args .unplaced) (s .pre .0 .some) (s .fits .unplaced .fits) .first .holds
 
--- ---- the level, packed
+-- ---- the level, packed: the rows of it that are released again
 module _ (w : Under tie.After-level-of) where
+  abbrev packs : Under tie.After-both
+  packs = w .before .before
+
   abbrev packed : Under tie.Start
-  packed = w .before .before .before .before
+  packed = packs .before .before .before
+
+  abbrev set : ℕ
+  set = packs .both .result
+
+  abbrev bound : ℕ
+  bound = packed .pre .0 .busy .period
+
+  kept : (j : ℕ) → j < tb packed .n → marked set j ≡ (U packed j && again (tb packed) bound j)
+  kept j l = packs .both .ensures j ∙ ap (λ x. U packed j && x) (packed .pre .0 .repeat j l)
 
   abbrev all : List ℕ
   all = w .level-of .last .1 .1 .0
@@ -112,32 +123,27 @@ module _ (w : Under tie.After-level-of) where
   all-fits : ask-width * w .level-of .result ≤ length all
   all-fits = omega (arith, w .level-of .ensures .few, all-whole)
 
-  abbrev front : List ℕ
-  front = take (ask-width * w .level-of .result) all
+  short-bound : bound ≤ horizon + 1
+  short-bound = omega (arith, packed .pre .0 .busy .within)
 
-  all-asking : Asking (tb packed) (U packed) front
-  all-asking = asking-packed (packed .pre .0 .sound) (packed .pre .0 .asked) all-whole (w .level-of .ensures)
+  all-asking : Asking (tb packed) (U packed) bound (take (ask-width * w .level-of .result) all)
+  all-asking =
+      asking-packed (packed .pre .0 .sound) (packed .pre .0 .asked) short-bound kept all-whole (w .level-of .ensures)
 
--- ---- what it asks for in the first tick
-module _ (f : Under tie.After-runs-of) where
-  abbrev whole-level : Under tie.After-level-of
-  whole-level = f .before .before .before .before
-
+  -- what it asks for in the first tick
   abbrev first : ℕ
-  first = b (packed whole-level) + f .runs-of .result
+  first = b packed + packed .args .runs
 
-  asks-runs : first ≡ b (packed whole-level) + runs-of (front whole-level)
-  asks-runs = omega (arith, f .runs-of .ensures)
+  asks-runs : first ≡ b packed + load upto (tb packed) (U packed) 0
+  asks-runs = omega (arith, packed .pre .0 .first)
 
-  period-there : FixedWithin (active-of (front whole-level) first) 1 first
-  period-there =
-      let s = packed whole-level in
-      period-exists (s .pre .0) _ (some s) (all-asking whole-level) asks-runs
+  period-there : FixedWithin (active-of (take (ask-width * w .level-of .result) all) first) 1 first
+  period-there = period-exists (packed .pre .0) _ (some packed) all-asking asks-runs
 
 -- ---- the row in hand
 module _ (h : Under tie.After-leave-out) where
   abbrev N : Under tie.After-next
-  N = h .before .before .before .before
+  N = h .before .before .before
 
   abbrev rows : Under tie.At-rows
   rows = N .before .before
@@ -145,11 +151,8 @@ module _ (h : Under tie.After-leave-out) where
   abbrev A : Under tie.After-active-period
   A = rows .before
 
-  abbrev F : Under tie.After-runs-of
-  F = A .before .before
-
   abbrev W : Under tie.After-level-of
-  W = whole-level F
+  W = A .before .before .before .before
 
   abbrev S : Under tie.Start
   S = packed W
@@ -162,7 +165,7 @@ module _ (h : Under tie.After-leave-out) where
 
   -- the rows left to try after it
   abbrev left : Under tie.After-less
-  left = h .before .before .before
+  left = h .before .before
 
   -- the rows above it
   abbrev P : ℕ → Bool
@@ -175,36 +178,45 @@ module _ (h : Under tie.After-leave-out) where
   inside = S .pre .0 .inside i unplaced
 
   active : Active (tb S) P (b S) i L
-  active = period-found (S .pre .0) i unplaced (all-asking W) (asks-runs F) (A .active-period .ensures)
+  active = period-found (S .pre .0) i unplaced (all-asking W) (asks-runs W) (A .active-period .ensures)
+
+  in-busy : L ≤ bound W
+  in-busy = period-within (S .pre .0) i unplaced active
 
   short : L ≤ horizon
-  short = period-within (S .pre .0) i unplaced active
+  short = omega (arith, in-busy, S .pre .0 .busy .within)
 
-  first-is : first F ≡ active-side (tb S) P (b S) i 1
-  first-is = period-first (S .pre .0) i unplaced (all-asking W) (asks-runs F)
+  first-is : first W ≡ active-side (tb S) P (b S) i 1
+  first-is = period-first (S .pre .0) i unplaced (all-asking W) (asks-runs W)
 
   -- the level that the others are left in: of all rows but the one in hand, whose place the last one takes
-  abbrev last : ℕ
-  last = W .level-of .result - 1
+  abbrev many-above : ℕ
+  many-above = h .leave-out .result
 
   abbrev level : List ℕ
   level = h .leave-out .last .0
 
-  left-is : level ≡ put (all W) (count (U S) i) (run (all W) last) (inverse (all W) last)
-  left-is =
-      h .leave-out .ensures ∙ out-same last (rows .rows .inv .1) (h .before .before .place .ensures)
+  row-inside : i < many (S .args .asks .now)
+  row-inside = inside
+
+  left-out : LeftOut (set W) i (all W) (W .level-of .result) level many-above
+  left-out = subst (λ l. LeftOut (set W) i l (W .level-of .result) level many-above) (rows .rows .inv .1)
+      (h .leave-out .ensures)
 
   whole : length level ≡ ask-width * most-rows
-  whole = ap length left-is ∙ put-length (all W) (count (U S) i) (run (all W) last) (inverse (all W) last) ∙ all-whole W
+  whole = left-whole (set W) (W .level-of .ensures) (all-whole W) i row-inside left-out
 
-  fits : ask-width * last ≤ length level
-  fits = omega (arith, W .level-of .ensures .few, whole)
+  few-above : many-above ≤ most-rows
+  few-above = left-few (set W) (W .level-of .ensures) (all-whole W) i row-inside left-out
 
-  asking : Asking (tb S) P (take (ask-width * last) level)
+  fits : ask-width * many-above ≤ length level
+  fits = omega (arith, few-above, whole)
+
+  asking : Asking (tb S) P (bound W) (take (ask-width * many-above) level)
   asking =
-      asking-held (S .pre .0 .sound) (S .pre .0 .asked) whole
-      (subst (λ l. Holding (S .args .asks .now) P l last) (sym left-is)
-      (left-holding (W .level-of .ensures) (all-whole W) i inside unplaced))
+      asking-held (S .pre .0 .sound) (S .pre .0 .asked) (short-bound W)
+      (λ j l. kept-without (marked (set W)) (U S) (again (tb S) (bound W) j) i j (kept W j l)) whole
+      (left-others (set W) (W .level-of .ensures) (all-whole W) i row-inside left-out)
 
   runs : Within (tb S .C i)
   runs = S .pre .0 .sound .row i inside .C
@@ -319,7 +331,7 @@ module _ (c : Under tie.At-loop) where
   next-within = omega (arith, trial-within (working I) (trial-again (working I) (c .loop .inv)), short (R I))
 
   -- what the level gives for it
-  turned : start-of (take (ask-width * last (R I)) (level (R I))) (c .before .base-of .result) (c .loop .s) ≡ side
+  turned : start-of (take (ask-width * many-above (R I)) (level (R I))) (c .before .base-of .result) (c .loop .s) ≡ side
   turned =
       let h = R I in
       let w = working I in
@@ -329,7 +341,7 @@ module _ (c : Under tie.At-loop) where
       ≡ active-side (tb (S h)) (P h) (b (S h)) (i h) 1 + (k - 1) * tb (S h) .C (i h) - q I =
       omega (arith, c .before .base-of .ensures, first-is h) in
       start-of-is (asking h) (w .positive) (b (S h)) (i h) (q I) (k - 1) (w .row) (w .most) based (c .loop .s)
-      (omega (arith, within))
+      (omega (arith, trial-within w (c .loop .inv), w .some, in-busy h))
       ∙ ap (λ n. start-side (tb (S h)) (P h) (b (S h)) (i h) upto (q I) n (c .loop .s)) z
 
 -- ---- where a value repeats
@@ -401,48 +413,38 @@ module _ (c : Under tie.After-lengths) where
       (worth K) (c .before .lengths .inv .0) (c .lengths-test .left)
 
 level-of-requires : Under tie.Need-level-of-requires
-level-of-requires c κs = let p = c .before .before .before .pre in (p .0 .sound .few, p .0 .inside, p .1)
-
-runs-of-requires : Under tie.Need-runs-of-requires
-runs-of-requires c κs = all-asking (c .before .before .before) .small
+level-of-requires c κs =
+    let d = c .before in
+    let s = d .before .before .before in (
+      s .pre .0 .sound .few,
+      λ j e. s .pre .0 .inside j (and-left (U s j) (marked (s .args .again) j) (sym (d .both .ensures j) ∙ e)),
+      s .pre .1,
+    )
 
 active-period-requires : Under tie.Need-active-period-requires
-active-period-requires c κs = let f = c .before in (all-asking (whole-level f) .small, period-there f)
+active-period-requires c κs = let w = c .before .before .before in (all-asking w .small, period-there w)
 
 rows-holds : Under tie.Need-rows-holds
 rows-holds c = (seen-first _ _ _ _, refl)
 
--- ---- the place of the row in hand
-module _ (c : Under tie.After-place) where
-  abbrev at-hand : Under tie.At-rows
-  at-hand = c .before .before .before .before
-
-  abbrev W₀ : Under tie.After-level-of
-  W₀ = whole-level (at-hand .before .before .before)
-
-  place-fits : c .place .result < W₀ .level-of .result
-  place-fits =
-      let s = packed W₀ in
-      let u = s .pre .0 .among _ (at-hand .rows .inv .0 .among _ (c .before .before .next .ensures .first .holds)) in
-      omega (
-        arith,
-        c .place .ensures,
-        place-inside (W₀ .level-of .ensures) (all-whole W₀) _ (s .pre .0 .inside _ u) u,
-      )
-
-  level-whole : length (at-hand .rows .level) ≡ ask-width * most-rows
-  level-whole = ap length (at-hand .rows .inv .1) ∙ all-whole W₀
-
 leave-out-requires : Under tie.Need-leave-out-requires
 leave-out-requires c κs =
-    let p = c .before in
-    (place-fits p, W₀ p .level-of .ensures .few, level-whole p)
+    let n = c .before .before in
+    let r = n .before .before in
+    let w = r .before .before .before .before .before in
+    let p = packed w .pre .0 in
+    let u = p .among _ (r .rows .inv .0 .among _ (n .next .ensures .first .holds)) in (
+      n .next .ensures .inside,
+      w .level-of .ensures .few,
+      ap length (r .rows .inv .1) ∙ all-whole w,
+      place-within (set w) (w .level-of .ensures) (all-whole w) _ (p .inside _ u),
+    )
 
 lengths-holds : Under tie.Need-lengths-holds
 lengths-holds c = (narrowed-first _ _ _ _ _, search needs)
 
 jobs-holds : Under tie.Need-jobs-holds
-jobs-holds c = trial-first (working c) (first (F (R c))) (first-is (R c))
+jobs-holds c = trial-first (working c) (first (W (R c))) (first-is (R c))
 
 loop-holds : Under tie.Need-loop-holds
 loop-holds c = c .before .before .jobs .inv
@@ -512,17 +514,15 @@ module _ (c : Under tie.After-put-back) where
   back : c .put-back .last .0 ≡ all (W (G D))
   back =
       let h = G D in
-      c .put-back .ensures
-      ∙ put-same _ _ (left-is h) (h .before .before .place .ensures)
-      ∙ back-same (W h .level-of .ensures) (all-whole (W h)) (i h) (inside h) (unplaced h)
+      back-as-was (set (W h)) (W h .level-of .ensures) (all-whole (W h)) (i h) (row-inside h) (left-out h)
+      (c .put-back .ensures)
 
 put-back-requires : Under tie.Need-put-back-requires
 put-back-requires c κs =
     let h = G (c .before) in (
-      omega (arith, place-fits (h .before .before), W h .level-of .ensures .few),
-      whole h,
       inside h,
       S h .pre .0 .sound .few,
+      whole h,
     )
 
 rows-again : Under tie.Need-rows-again
@@ -537,9 +537,9 @@ rows-again-3 : Under tie.Need-rows-again-3
 rows-again-3 c = let p = c .before .before .before in (unchanged (D p) (c .if5 .left), back p)
 
 -- ---- where the rows are left, the level has its length still
-as-lent : (r : Under tie.At-rows) → let w = whole-level (r .before .before .before) in
+as-lent : (r : Under tie.At-rows) → let w = r .before .before .before .before .before in
     length (r .rows .level) ≡ length (packed w .args .level .now)
-as-lent r = ap length (r .rows .inv .1) ∙ whole-level (r .before .before .before) .level-of .kept .1 .1 .0
+as-lent r = ap length (r .rows .inv .1) ∙ r .before .before .before .before .before .level-of .kept .1 .1 .0
 
 returns : Under tie.Need-returns
 returns c = seen-none (c .before .before .rows .inv .0) (c .before .rows-test .left) (c .if7 .taken)
@@ -552,21 +552,19 @@ returns-2 c =
 
 pub choose-spec : {M : Type 1} → statement M
 choose-spec = tie.close (tie.spec Inv-loop μ-loop Inv-jobs μ-jobs Inv-lengths μ-lengths Inv-rows μ-rows
-    level-of-requires (λ c. omega (arith, c .before .before .level-of .ensures .few))
+    (λ c κs. search needs) level-of-requires (λ c. let w = period-there (c .before .before) in omega (arith, w .under, w .within))
+    (λ c. omega (arith, c .before .before .level-of .ensures .few))
     (λ c. all-fits (c .before .before)) (λ c. sym (length-take-le _ _ (all-fits (c .before .before .before))))
-    runs-of-requires (λ c. let w = period-there c in omega (arith, w .under, w .within))
-    (λ c. omega (arith, whole-level c .level-of .ensures .few)) (λ c. all-fits (whole-level c))
-    (λ c. sym (length-take-le _ _ (all-fits (whole-level (c .before))))) active-period-requires rows-holds
+    active-period-requires rows-holds
     (λ c κs. pos-of-ne-zero (c .rows-test .taken))
     (λ c κs. (c .next .ensures .inside, c .next .ensures .first .holds))
-    (λ c κs. c .before .next .ensures .inside) (λ c. search needs) leave-out-requires (λ c. search needs)
+    leave-out-requires (λ c. search needs)
     (λ c. omega (arith, N (c .before .before) .next .ensures .inside))
     (λ c. N (c .before .before) .next .ensures .inside)
     (λ c κs. search needs) (λ c. omega (arith, top-run c, runs (H c) .high)) lengths-holds
     (λ c. omega (arith, length-first (working c), first-is (R c))) jobs-holds (λ c. c .jobs .inv .low)
     (λ c. omega (arith, released c)) add-due (λ c. c .before .jobs .inv .low) base-of-requires loop-holds
-    (λ c. omega (arith, within c)) (λ c. omega (arith, place-fits (R (I (c .before)) .before .before)))
-    (λ c. omega (arith, W (R (I (c .before))) .level-of .ensures .few))
+    (λ c. omega (arith, within c)) (λ c. omega (arith, few-above (R (I (c .before)))))
     (λ c. fits (R (I (c .before)))) (λ c. sym (length-take-le _ _ (fits (R (I (c .before .before))))))
     start-side-requires loop-less loop-again (λ c. omega (arith, within (E c)))
     (λ c. omega (arith, trial-after (working (I (E c))) (E c .loop .inv) (repeats c))) (λ c κs. search needs)
@@ -574,7 +572,7 @@ choose-spec = tie.close (tie.spec Inv-loop μ-loop Inv-jobs μ-jobs Inv-lengths 
     (λ c. omega (arith, job-few (J (E (c .before .before)))))
     (λ c. let a = E (c .before .before) in omega (arith, within a, runs (R (I a)) .high)) jobs-less jobs-again
     (λ c. let x = I (c .before .before) in omega (arith, working x .most, runs (R x) .high)) next-length-requires
-    lengths-less lengths-again (λ c. search needs) put-back-requires
+    lengths-less lengths-again put-back-requires
     (λ c. pos-of-ne-zero (N (G (D (c .before .before .before .before))) .before .rows-test .taken)) rows-again
     (λ c. left (G (D (c .before .before .before .before))) .less .ensures .smaller) rows-again-2
     (λ c. left (G (D (c .before .before .before))) .less .ensures .smaller) rows-again-3

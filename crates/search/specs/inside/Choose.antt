@@ -6,15 +6,16 @@ use mathlib.Core.List.{List}
 use Rattle.counting.specs.Sum.{without}
 use Rattle.marks.specs.inside.Marks.{marked}
 use Rattle.tables.specs.Table.{Table, Sound}
-use Rattle.test.specs.Test.{before, load, busy-side, BusyWithin, Response}
-use Rattle.sides.specs.inside.Asks.{Asks}
+use Rattle.test.specs.Test.{before, upto, load, busy-side, BusyWithin, Response}
+use Rattle.sides.specs.inside.Asks.{again, Asks}
 use Rattle.choice.specs.Choice.{Takes, NoneFits}
 use Rattle.search.specs.declared.Pick.{Pick}
 use Rattle.search.specs.declared.Pick.the-variants.{Taken, Nothing}
 
 -- a level of a table that has its busy period: some rows are unplaced, those to try are among them, and the blocking
--- and what the unplaced rows ask for is never more than what all rows ask for; and what the table's rows ask with
-pub record Searchable (tb : Table) (asks : List ℕ) (unplaced tried b : ℕ) : Type 0 where
+-- and what the unplaced rows ask for is never more than what all rows ask for; the runs of the unplaced rows, the rows
+-- that are released again in the busy period, and what the table's rows ask with
+pub record Searchable (tb : Table) (asks : List ℕ) (unplaced repeats tried b runs : ℕ) : Type 0 where
   pub sound : Sound tb
   pub asked : Asks tb asks
   pub inside : (j : ℕ) → marked unplaced j ≡ true → j < tb .n
@@ -22,6 +23,8 @@ pub record Searchable (tb : Table) (asks : List ℕ) (unplaced tried b : ℕ) : 
   pub among : (j : ℕ) → marked tried j ≡ true → marked unplaced j ≡ true
   pub busy : BusyWithin tb
   pub room : (t : ℕ) → 1 ≤ t → b + load before tb (marked unplaced) t ≤ busy-side tb t
+  pub repeat : (j : ℕ) → j < tb .n → marked repeats j ≡ again tb (busy .period) j
+  pub first : runs ≡ load upto tb (marked unplaced) 0
 
 -- the row that takes the rank and its length there, and R is its response; or no row fits at all
 abbrev pub Picked : Table → (ℕ → Bool) → ℕ → (ℕ → Bool) → Pick → Type 0

@@ -6,6 +6,7 @@ use native.Mathlib.Omega.{arith}
 use lib.ListN.{length-set}
 use borrow.Author.Needs.{needs}
 use Rattle.counting.proofs.Cases.{not-both}
+use Rattle.counting.proofs.Sum.{count-le}
 use Rattle.marks.specs.inside.Marks.{marked}
 use Rattle.tables.specs.Table.{most-rows}
 use Rattle.sides.specs.inside.Asks.{run, inverse}
@@ -27,7 +28,7 @@ module _ (p : tie.After-place) where
   inside = sym (p .before .before .has .ensures) ∙ p .before .if1 .taken
 
   place-fits : p .place .result < most-rows
-  place-fits = omega (arith, p .place .ensures, S .pre .3)
+  place-fits = omega (arith, p .place .ensures, count-le (marked (S .args .set)) (S .args .i), few S)
 
 returns : tie.Need-returns
 returns c =
