@@ -2,5 +2,6 @@
 pub mod Answers
 pub mod Unique
 pub mod Timed
+pub mod Runs
 pub mod Going
 pub mod FillUnique

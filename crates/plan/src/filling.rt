@@ -1,7 +1,8 @@
 // The ranks filled from n down to 1: one search a rank, until every row is placed or no row has a passing length.
+ghost use Prim.Native.Nat.{_≤_};
 ghost use Rattle.tables.specs.Table.{Sound};
 ghost use Rattle.tables.specs.inside.Rows.{tableIn};
-ghost use Rattle.test.specs.Test.{BusyWithin};
+ghost use Rattle.test.specs.Test.{horizon, Busy};
 ghost use Rattle.sides.specs.inside.Asks.{Asks};
 ghost use Rattle.plan.specs.inside.Ended.{Ended};
 use search::Pick;
@@ -18,19 +19,22 @@ pub struct Filling {
     pub times: [u32; 32],
 }
 
-// As many rows are unplaced as the rank says that is filled next, and all of them are tried.
-pub fn fill(rows: [Row; 32], n: usize, asks: &[u64]) -> Filling
-    requires { ⌜ Sound (tableIn rows n) × BusyWithin (tableIn rows n) × Asks (tableIn rows n) (now asks) ⌝ }
+// As many rows are unplaced as the rank says that is filled next, and all of them are tried. The busy period says which
+// rows are released again in it.
+pub fn fill(rows: [Row; 32], n: usize, asks: &[u64], busy: u32) -> Filling
+    requires { ⌜ Sound (tableIn rows n) × Busy (tableIn rows n) busy × (busy ≤ horizon) × Asks (tableIn rows n) (now asks) ⌝ }
     ensures { λ r. ⌜ Ended (tableIn rows n) r ⌝ }
 {
     let mut plan = [0u32; PLAN_WIDTH * MOST_ROWS];
     let mut times = [0u32; 32];
     let mut level = [0u64; ASK_WIDTH * MOST_ROWS];
+    let again = sides::again_of(rows, n, busy);
     let mut unplaced = marks::whole(n as u32);
+    let mut runs = sides::runs_of(asks);
     let mut blocking: u32 = 0;
     while unplaced != 0 {
         let rank = marks::size(unplaced);
-        let pick = search::choose(rows, asks, &mut level, unplaced, unplaced, blocking);
+        let pick = search::choose(rows, asks, &mut level, unplaced, again, unplaced, blocking, runs);
         let Pick::Taken(row, len, response) = pick else {
             return Filling {
                 stopped: rank,
@@ -43,6 +47,8 @@ pub fn fill(rows: [Row; 32], n: usize, asks: &[u64]) -> Filling
         plan[at] = rank;
         plan[at + 1] = len;
         times[i] = response;
+        let placed = rows[i];
+        runs -= placed.c;
         blocking = counting::larger(blocking, len - 1);
         unplaced = marks::less(unplaced, row);
     }

@@ -25,10 +25,10 @@ fn plan_of(rows: [Row; 32], n: usize, out: &mut [u32]) -> Answer
     let all = sides::asks_of(rows, n);
     let asks = &all[..ASK_WIDTH * n];
     let busy = sides::periods::busy_period(asks);
-    if let Busy::Beyond = busy {
+    let Busy::At(period) = busy else {
         return Answer::NoBusy;
-    }
-    let filled = filling::fill(rows, n, asks);
+    };
+    let filled = filling::fill(rows, n, asks, period as u32);
     if filled.stopped != 0 {
         return Answer::NoPlan;
     }
