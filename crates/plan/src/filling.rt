@@ -34,7 +34,16 @@ pub fn fill(rows: [Row; 32], n: usize, asks: &[u64], busy: u32) -> Filling
     let mut blocking: u32 = 0;
     while unplaced != 0 {
         let rank = marks::size(unplaced);
-        let pick = search::choose(rows, asks, &mut level, unplaced, again, unplaced, blocking, runs);
+        let pick = search::choose(
+            rows,
+            asks,
+            &mut level,
+            unplaced,
+            again,
+            unplaced,
+            blocking,
+            runs,
+        );
         let Pick::Taken(row, len, response) = pick else {
             return Filling {
                 stopped: rank,

@@ -58,7 +58,7 @@ module _ {tb : Table} {asks : List ℕ} {set b i q : ℕ} (r : Ranked tb asks se
 
     -- over a level of it and the rows above
     module _ {level : List ℕ} (a : Asking tb (marked all) (horizon + 1) level) {first-asked : ℕ}
-      (f : first-asked ≡ b + load upto tb (marked all) 0)
+        (f : first-asked ≡ b + load upto tb (marked all) 0)
       where
         abbrev alone : Active tb (without (marked all) i) b i (r .period)
         alone = rw (← others) (r .active)

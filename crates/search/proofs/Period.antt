@@ -40,7 +40,7 @@ module _ {tb : Table} {asks : List ℕ} {unplaced repeats tried b runs : ℕ}
     period-within a = omega (arith, exists .2, least-unique a (exists .1))
 
     module _ {level : List ℕ} (a : Asking tb U (s .busy .period) level) {first : ℕ}
-      (f : first ≡ b + load upto tb U 0) where
+        (f : first ≡ b + load upto tb U 0) where
       pub period-first : first ≡ active-side tb (without U i) b i 1
       period-first = active-first a positive b i f (s .inside i e) e
 

@@ -1,6 +1,6 @@
 -- `plan_of` meets its contract: the checks 2 and 4, the filling and its stop, then the parts.
 use Prim.Native.Nat.{_≤_, _*_}
-use mathlib.Core.Path.{sym}
+use mathlib.Core.Path.{sym, subst}
 use mathlib.Core.Logic.{⊎-elim}
 use native.Mathlib.Omega.{arith}
 use lib.ListN.{length, take}
@@ -12,6 +12,7 @@ use Rattle.tables.specs.inside.Rows.{tableIn}
 use Rattle.test.specs.Test.{BusyWithin}
 use Rattle.sides.specs.inside.Asks.{Asks, ask-width}
 use Rattle.sides.specs.inside.Found.{BusyFound}
+use Rattle.sides.specs.declared.periods.Busy.the-variants.{At}
 use Rattle.sides.proofs.Busy.{busy-asks, busy-found}
 use Rattle.tables.specs.Planned.{planned-width}
 use Rattle.tables.proofs.Answered.{_past_}
@@ -44,9 +45,9 @@ found c =
     busy-found (T a .pre) (asks a) (c .busy-period .result) (c .busy-period .ensures)
 
 -- and there is one
-module _ (c : tie.After-enum-told2) where
+module _ (c : tie.After-known-told) where
   abbrev A : tie.After-asks-of
-  A = c .before .before .before .before
+  A = c .before .before .before .before .before
 
   abbrev E : tie.Else1
   E = A .before
@@ -54,8 +55,11 @@ module _ (c : tie.After-enum-told2) where
   abbrev S : tie.Start
   S = T A
 
+  at : BusyFound (tableIn (S .args .rows) (S .args .n)) (At (c .before .busy .given .0 .0))
+  at = subst (BusyFound _) (c .before .busy .given .1) (found (c .before .before .before))
+
   busy : BusyWithin (tableIn (S .args .rows) (S .args .n))
-  busy = busy-within _ (found (c .before .before)) (c .enum-told2 .given .1)
+  busy = record { period = _; busy = at .0; within = at .1 }
 
 returns : tie.Need-returns
 returns c = room-refuses _ _ (c .if1 .taken)
@@ -94,6 +98,6 @@ returns-4 c =
 pub plan-of-spec : {M : Type 1} → statement M
 plan-of-spec = tie.close (tie.spec (λ c. search needs) returns (λ c κs. search needs)
     (λ c. omega (arith, T c .pre .few)) (λ c. fits c) (λ c. sym (length-take-le _ _ (fits (c .before))))
-    (λ c κs. busy-asks (T (c .before) .pre) (asks (c .before))) (λ c. search needs)
-    returns-2 (λ c. search needs) (λ c κs. (S c .pre, busy c, asks (A c))) returns-3 write-requires (λ c. search needs)
+    (λ c κs. busy-asks (T (c .before) .pre) (asks (c .before))) (λ c. search needs) (λ c. search needs)
+    returns-2 (λ c. omega (arith, at c .1)) (λ c κs. (S c .pre, at c .0, at c .1, asks (A c))) returns-3 write-requires (λ c. search needs)
     (λ c. search needs) (λ c. search needs) returns-4)
