@@ -28,7 +28,7 @@ pub fn fill(rows: [Row; 32], n: usize, asks: &[u64], busy: u32) -> Filling
     let mut plan = [0u32; PLAN_WIDTH * MOST_ROWS];
     let mut times = [0u32; 32];
     let mut level = [0u64; ASK_WIDTH * MOST_ROWS];
-    let again = sides::again_of(rows, n, busy);
+    let again = sides::again_of(asks, busy);
     let mut unplaced = marks::whole(n as u32);
     let mut runs = sides::runs_of(asks);
     let mut blocking: u32 = 0;
@@ -56,8 +56,7 @@ pub fn fill(rows: [Row; 32], n: usize, asks: &[u64], busy: u32) -> Filling
         plan[at] = rank;
         plan[at + 1] = len;
         times[i] = response;
-        let placed = rows[i];
-        runs -= placed.c;
+        runs -= asks[ASK_WIDTH * i] as u32;
         blocking = counting::larger(blocking, len - 1);
         unplaced = marks::less(unplaced, row);
     }

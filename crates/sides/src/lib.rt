@@ -11,7 +11,7 @@ ghost use Rattle.marks.specs.inside.Marks.{marked, Where};
 ghost use Rattle.tables.specs.Table.{Sound, most, most-rows};
 ghost use Rattle.tables.specs.inside.Rows.{tableIn};
 ghost use Rattle.test.specs.Test.{horizon};
-ghost use Rattle.sides.specs.inside.Asks.{ask-width, many, again, AsksFront};
+ghost use Rattle.sides.specs.inside.Asks.{ask-width, many, closer, AsksFront};
 ghost use Rattle.sides.specs.inside.Level.{runs-of, part-of, later, busy-of, active-of, start-of};
 ghost use Rattle.sides.specs.inside.Level.{Small, Packed, LeftOut, PutBack};
 use tables::MOST_ROWS;
@@ -63,16 +63,18 @@ pub fn level_of(asks: &[u64], set: u32, level: &mut [u64]) -> usize
     m
 }
 
-// The rows whose spacing is below t: those that are released again before t, where they are released at 0.
-pub fn again_of(rows: [Row; 32], n: usize, t: u32) -> u32
-    requires { ⌜ n ≤ most-rows ⌝ }
-    ensures { λ r. ⌜ Where (again (tableIn rows n) t) n r ⌝ }
+// The rows whose spacing is below t, by its inverse: those that are released again before t, where they are released at
+// 0.
+pub fn again_of(asks: &[u64], t: u32) -> u32
+    requires { ⌜ (many (now asks) ≤ most-rows) × (1 ≤ t) ⌝ }
+    ensures { λ r. ⌜ Where (closer (now (asks .entry)) t) (many (now (asks .entry))) r ⌝ }
 {
+    let n = asks.len() / ASK_WIDTH;
+    let least = SCALE / (t as u64) + 1;
     let mut set: u32 = 0;
     let mut i: usize = 0;
     while i < n {
-        let row = rows[i];
-        if row.t < t {
+        if least < asks[ASK_WIDTH * i + 1] {
             set = marks::more(set, i as u32);
         }
         i += 1;

@@ -1,46 +1,54 @@
--- `again_of` meets its contract: the set marks the rows passed that are released again.
-use Prim.Native.Nat.{_≤_, _-_}
+-- `again_of` meets its contract: the set marks the rows passed whose spacing is below t.
+use Prim.Native.Nat.{_≤_, _<_, _-_}
 use mathlib.Core.Logic.{⊎-elim}
 use mathlib.Core.Path.{_≡_}
 use native.Mathlib.Omega.{arith}
+use native.Mathlib.Nat.{div-le-self}
 use borrow.Author.Needs.{needs}
 use borrow.Author.Tests.{lt-ltb, le-ltb}
 use Rattle.marks.specs.inside.Marks.{Where}
 use Rattle.marks.proofs.Where.{where-none, where-apart, where-more, where-same}
-use Rattle.tables.specs.inside.Rows.{tableIn}
-use Rattle.sides.specs.inside.Asks.{again}
+use Rattle.tables.specs.Table.{most-rows}
+use Rattle.sides.specs.inside.Asks.{many, closer, scale}
 use Rattle.sides.proofs.again_of.Statement.{statement}
 use Rattle.sides.proofs.again_of.Tie as tie
 
 abbrev Inv-loop : tie.InvT-loop
-Inv-loop n t rows set₀ i₀ set i = (i ≤ n) × Where (again (tableIn rows n) t) i set
+Inv-loop asks t n least set₀ i₀ set i = (i ≤ many asks) × Where (closer asks t) i set
 
 abbrev μ-loop : tie.MeasureT-loop
-μ-loop n t rows set₀ i₀ set i = n - i
+μ-loop asks t n least set₀ i₀ set i = n - i
+
+few : (l : tie.In-loop Inv-loop μ-loop) → l .before .loop .i < most-rows
+few l = omega (arith, l .loop-test .taken, l .before .before .before .pre .0)
 
 more-requires : tie.Need-more-requires Inv-loop μ-loop
 more-requires c κs =
-    let l = c .before .before .before .before in
-    (omega (arith, l .before .pre), where-apart _ _ _ (l .loop .inv .1))
+    let l = c .before .before in
+    (few l, where-apart _ _ _ (l .before .loop .inv .1))
 
 loop-again : tie.Need-loop-again Inv-loop μ-loop
 loop-again c =
-    let l = c .before .before .before .before in
-    let a = l .before .args in
-    let P = again (tableIn (a .t1) (a .n)) (a .t) in (
-      search needs,
+    let l = c .before .before in
+    let a = l .before .before .before .args in
+    let P = closer (a .asks .now) (a .t) in (
+      omega (arith, l .loop-test .taken),
       ⊎-elim
-          (λ m. rw (m .2) (where-more P _ _ (l .loop .inv .1) _ (lt-ltb _ _ (m .0 .taken)) (m .1 .ensures)))
-          (λ m. rw (m .1) (where-same P _ _ (l .loop .inv .1) (le-ltb _ _ (m .0 .left))))
+          (λ m. rw (m .2) (where-more P _ _ (l .before .loop .inv .1) _ (lt-ltb _ _ (m .0 .taken)) (m .1 .ensures)))
+          (λ m. rw (m .1) (where-same P _ _ (l .before .loop .inv .1) (le-ltb _ _ (m .0 .left))))
           (c .if1 .came),
     )
 
 returns : tie.Need-returns Inv-loop μ-loop
 returns c =
-    let e : c .before .loop .i ≡ c .before .before .args .n = omega arith in
-    rw e at (c .before .loop .inv .1)
+    let l = c .before .loop in
+    let e : l .i ≡ many (c .before .before .before .args .asks .now) = omega (arith, l .inv .0, c .loop-test .left) in
+    rw e at (l .inv .1)
 
 pub again-of-spec : {M : Type 1} → statement M
-again-of-spec = tie.close (tie.spec Inv-loop μ-loop (λ c. (search needs, where-none _)) (λ c. search needs)
-    (λ c. omega (arith, c .loop-test .taken, c .before .before .pre)) (λ c. search needs) more-requires
-    (λ c. search needs) (λ c. search needs) loop-again returns)
+again-of-spec = tie.close (tie.spec Inv-loop μ-loop (λ c. c .before .pre .1)
+    (λ c. omega (arith, div-le-self scale (c .before .args .t))) (λ c. (omega arith, where-none _))
+    (λ c. omega (arith, few c)) (λ c. omega (arith, few c)) (λ c. omega (arith, few c))
+    (λ c. omega (arith, c .before .loop-test .taken)) (λ c. omega (arith, few (c .before .before))) more-requires
+    (λ c. omega (arith, few (c .before .before))) (λ c. omega (arith, c .before .before .loop-test .taken)) loop-again
+    returns)

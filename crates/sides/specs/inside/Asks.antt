@@ -30,9 +30,12 @@ run asks p = getD asks (ask-width * p) 0
 abbrev pub inverse : List ℕ → ℕ → ℕ
 inverse asks p = getD asks (ask-width * p + 1) 0
 
--- row j is released again before t, where it is released at 0
+-- row j is released again before t, where it is released at 0; and row p has a spacing below t, by its inverse
 abbrev pub again : Table → ℕ → ℕ → Bool
 again tb t j = ltb (tb .T j) t
+
+abbrev pub closer : List ℕ → ℕ → ℕ → Bool
+closer asks t p = ltb (inverse-of t) (inverse asks p)
 
 -- the list is what the rows of the table ask with
 pub record Asks (tb : Table) (asks : List ℕ) : Type 0 where
