@@ -1,19 +1,18 @@
 -- `fill` meets its contract: each turn places the row that takes the rank, and the rank is the number of rows left.
-use Prim.Native.Nat.{ℕ, _*_, _≤_, _<_}
+use Prim.Native.Nat.{ℕ, _-_, _*_, _≤_, _<_}
 use mathlib.Core.Path.{_≡_, refl, sym, ap, _∙_, subst}
-use mathlib.Core.Bool.{_&&_}
 use native.Mathlib.Nat.{pos-of-ne-zero}
 use native.Mathlib.Omega.{arith}
 use lib.ListN.{length}
 use borrow.Author.Needs.{needs}
-use borrow.Author.Tests.{lt-ltb}
 use Rattle.marks.specs.inside.Marks.{marked}
 use Rattle.marks.proofs.Marks.{count-something}
 use Rattle.tables.specs.Table.{Table, most-rows}
 use Rattle.tables.specs.inside.Rows.{tableIn}
 use Rattle.test.specs.Test.{upto, load}
 use Rattle.test.proofs.Load.{Positive, sound-positive}
-use Rattle.sides.specs.inside.Asks.{ask-width, many, again}
+use Rattle.sides.specs.inside.Asks.{ask-width, many, run}
+use Rattle.sides.proofs.Again.{again-asked}
 use Rattle.sides.proofs.Busy.{busy-asks}
 use Rattle.search.specs.inside.Choose.{Searchable, Picked}
 use Rattle.search.specs.declared.Pick.{Pick}
@@ -24,13 +23,13 @@ use Rattle.plan.proofs.filling.fill.Statement.{statement}
 use Rattle.plan.proofs.filling.fill.Tie as tie
 
 abbrev Inv-loop : tie.InvT-loop
-Inv-loop n asks busy rows plan₀ times₀ level₀ again unplaced₀ runs₀ blocking₀ plan times level unplaced runs blocking =
+Inv-loop rows n asks busy plan₀ times₀ level₀ again unplaced₀ runs₀ blocking₀ plan times level unplaced runs blocking =
     Going (tableIn rows n) plan times unplaced blocking
     × (length level ≡ ask-width * most-rows)
     × (runs ≡ load upto (tableIn rows n) (marked unplaced) 0)
 
 abbrev μ-loop : tie.MeasureT-loop
-μ-loop n asks busy rows plan₀ times₀ level₀ again unplaced₀ runs₀ blocking₀ plan times level unplaced runs blocking =
+μ-loop rows n asks busy plan₀ times₀ level₀ again unplaced₀ runs₀ blocking₀ plan times level unplaced runs blocking =
     unplaced
 
 -- ---- the level that is searched
@@ -40,7 +39,7 @@ module _ (c : tie.At-loop Inv-loop μ-loop) where
 
   -- the table, of n rows or of as many as there are asks
   abbrev table : ℕ → Table
-  table n = tableIn (B .args .t1) n
+  table n = tableIn (B .args .rows) n
 
   abbrev tb : Table
   tb = table (B .args .n)
@@ -81,8 +80,11 @@ module _ (c : tie.After-known-told Inv-loop μ-loop) where
   inside : y < most-rows
   inside = omega (arith, picked .0 .row, B A .pre .0 .few)
 
-  enough : tb A .C y ≤ A .loop .runs
-  enough = runs-enough (pos A) (U A) (A .loop .inv .2) (picked .0 .row) (picked .0 .try)
+  own-run : run (B A .args .asks .now) y ≡ tb A .C y
+  own-run = B A .pre .3 .runs y (picked .0 .row)
+
+  enough : run (B A .args .asks .now) y ≤ A .loop .runs
+  enough = omega (arith, own-run, runs-enough (pos A) (U A) (A .loop .inv .2) (picked .0 .row) (picked .0 .try))
 
 loop-holds : tie.Need-loop-holds Inv-loop μ-loop
 loop-holds c =
@@ -108,9 +110,8 @@ choose-requires c κs =
             among = λ j e. e;
             busy = record { period = s .args .busy; busy = s .pre .1; within = s .pre .2 };
             room = going-room (tb a) (pos a) (a .loop .inv .0);
-            repeat =
-                λ j l. more .again-of .ensures j
-                ∙ ap (λ x. x && again (tb a) (s .args .busy) j) (lt-ltb j (s .args .n) l);
+            repeat = again-asked (more .again-of .result) (s .pre .0) (s .pre .3) (s .pre .1 .low) (s .pre .2)
+                (more .again-of .ensures);
             first = a .loop .inv .2;
           }),
       a .loop .inv .1,
@@ -127,24 +128,28 @@ returns c =
 
 loop-again : tie.Need-loop-again Inv-loop μ-loop
 loop-again c =
-    let d = c .before .before .before .before in
+    let d = c .before .before .before in
     let a = A d in (
       rw (S d .before .before .size .ensures, c .before .larger .ensures)
           (going-more (tb a) (pos a) (a .loop .inv .0) (inside d) (picked d .0) (picked d .1) (c .less .ensures)),
       S d .choose .kept .1 .1 .0 ∙ a .loop .inv .1,
-      runs-more (pos a) (U a) (a .loop .inv .2) (picked d .0 .row) (picked d .0 .try) (c .less .ensures),
+      ap (λ x. a .loop .runs - x) (own-run d)
+          ∙ runs-more (pos a) (U a) (a .loop .inv .2) (picked d .0 .row) (picked d .0 .try) (c .less .ensures),
     )
 
 pub fill-spec : {M : Type 1} → statement M
-fill-spec = tie.close (tie.spec Inv-loop μ-loop (λ c κs. c .before .pre .0 .few) (λ c. search needs)
+fill-spec = tie.close (tie.spec Inv-loop μ-loop (λ c κs. let p = c .before .pre in (omega (arith, p .3 .long, p .0 .few), p .1 .low)) (λ c. search needs)
     (λ c κs. let p = c .before .before .pre .0 in (p .some, p .few))
     (λ c κs. let p = c .before .before .before .pre in busy-asks (p .0) (p .3) .0) loop-holds
     (λ c κs. search needs) (λ c. sym (c .before .before .before .loop .inv .1)) choose-requires (λ c. search needs)
     (λ c. search needs) returns (λ c. search needs) (λ c. search needs) (λ c. search needs)
     (λ c. omega (arith, inside c)) (λ c. search needs) (λ c. search needs)
     (λ c. omega (arith, inside c)) (λ c. search needs) (λ c. omega (arith, inside c))
-    (λ c. omega (arith, inside c)) inside (λ c. enough (c .before .before))
-    (λ c. omega (arith, picked (c .before .before) .0 .shortest .low)) (λ c κs. search needs)
-    (λ c κs. let d = c .before .before .before in (inside d, picked d .0 .try)) (λ c. c .less .ensures .smaller)
+    (λ c. omega (arith, inside c)) (λ c. omega (arith, inside c))
+    (λ c. let d = c .before in omega (arith, picked d .0 .row, B (A d) .pre .3 .long))
+    (λ c. let d = c .before in
+    omega (arith, own-run d, B (A d) .pre .0 .row (y d) (picked d .0 .row) .C .high)) (λ c. enough (c .before))
+    (λ c. omega (arith, picked (c .before) .0 .shortest .low)) (λ c κs. search needs)
+    (λ c κs. let d = c .before .before in (inside d, picked d .0 .try)) (λ c. c .less .ensures .smaller)
     loop-again
     (λ c. let a = c .before in going-ends (tb a) (pos a) (a .loop .inv .0) (c .loop-test .left)))
