@@ -56,7 +56,8 @@ fn response(
     let first = b + sides::runs_of(&level[..ASK_WIDTH * all]);
     let period = sides::periods::active_period(&level[..ASK_WIDTH * all], first);
     let jobs = counting::round_up(period as u64, spacing as u64) as u32;
-    let higher = sides::leave_out(level, all, with_own, i as u32);
+    let at = marks::place(with_own, i as u32) as usize;
+    let higher = sides::leave_out(level, all, true, at);
     let mut largest: u32 = 0;
     let mut low = first - q;
     let mut k: u32 = 0;

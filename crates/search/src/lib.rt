@@ -69,8 +69,11 @@ pub fn choose(
     'rows: while rest != 0 {
         let i = marks::next(rest);
         rest = marks::less(rest, i);
-        // The others stand above it while it is tried: in the level the last one takes its place.
-        let above = sides::leave_out(level, all, packed, i);
+        // The others stand above it while it is tried: in the level the last one takes its place. A row that is not
+        // released again is not in it.
+        let inside = marks::has(packed, i);
+        let at = marks::place(packed, i) as usize;
+        let above = sides::leave_out(level, all, inside, at);
         let own = rows[i as usize];
         let c = own.c;
         let t = own.t;
@@ -118,7 +121,7 @@ pub fn choose(
             }
             len = next_length(low, high, cap);
         }
-        sides::put_back(level, packed, asks, i);
+        sides::put_back(level, inside, at, asks, i as usize);
         if high <= cap {
             row = i;
             best = high;

@@ -146,24 +146,25 @@ module _ {asks : List ℕ} {P : ℕ → Bool} {before level : List ℕ} {m : ℕ
       (λ z. put-other left p (run asks i) (inverse asks i) k y z
       ∙ put-other level p (run level last) (inverse level last) k y z)))
 
--- whether row i is in the level or not
+-- whether row i, at place p, is inside the level or not
 module _ (set : ℕ) {asks before level : List ℕ} {m : ℕ} (w : Packed asks (marked set) before level m)
-    (whole : length level ≡ ask-width * most-rows) (i : ℕ) (l : i < many asks) where
-  pub place-within : marked set i ≡ true → count (marked set) i < m
-  place-within = place-inside w whole i l
+    (whole : length level ≡ ask-width * most-rows) (i : ℕ) (l : i < many asks) {inside : Bool} {p : ℕ}
+    (h : inside ≡ marked set i) (at-p : p ≡ count (marked set) i) where
+  pub place-within : inside ≡ true → p < m
+  place-within e = omega (arith, place-inside w whole i l (sym h ∙ e))
 
-  module _ {left : List ℕ} {r : ℕ} (o : LeftOut set i level m left r) where
+  module _ {left : List ℕ} {r : ℕ} (o : LeftOut inside p level m left r) where
     pub left-whole : length left ≡ ask-width * most-rows
     left-whole =
-        by-bool (marked set i)
-        (λ e. ap length (o .inside e .1) ∙ put-length level _ _ _ ∙ whole)
-        (λ e. ap length (o .outside e .1) ∙ whole)
+        by-bool inside
+        (λ e. ap length (o .out e .1) ∙ put-length level _ _ _ ∙ whole)
+        (λ e. ap length (o .stays e .1) ∙ whole)
 
     pub left-few : r ≤ most-rows
     left-few =
-        by-bool (marked set i)
-        (λ e. omega (arith, o .inside e .0, w .few))
-        (λ e. omega (arith, o .outside e .0, w .few))
+        by-bool inside
+        (λ e. omega (arith, o .out e .0, w .few))
+        (λ e. omega (arith, o .stays e .0, w .few))
 
     absent : marked set i ≡ false → marked set ≡ without (marked set) i
     absent e = fun-ext (λ j. is-without (marked set) i j (marked set j) (λ q. ap (marked set) q ∙ e) (λ _. refl))
@@ -171,13 +172,14 @@ module _ (set : ℕ) {asks before level : List ℕ} {m : ℕ} (w : Packed asks (
     -- the rows that stay are the others
     pub left-others : Holding asks (without (marked set) i) left r
     left-others =
-        by-bool (marked set i)
-        (λ e. rw (o .inside e .1, o .inside e .0) (left-holding w whole i l e))
-        (λ e. rw (o .outside e .1, o .outside e .0, ← absent e) (packed-holding w))
+        by-bool inside
+        (λ e. rw (o .out e .1, o .out e .0, at-p) (left-holding w whole i l (sym h ∙ e)))
+        (λ e. rw (o .stays e .1, o .stays e .0, ← absent (sym h ∙ e)) (packed-holding w))
 
     -- put back, the level is as it was
-    pub back-as-was : {back : List ℕ} → PutBack set i asks left back → back ≡ level
+    pub back-as-was : {back : List ℕ} → PutBack inside p i asks left back → back ≡ level
     back-as-was b =
-        by-bool (marked set i)
-        (λ e. b .inside e ∙ put-same _ _ (o .inside e .1) refl ∙ back-same w whole i l e)
-        (λ e. b .outside e ∙ o .outside e .1)
+        by-bool inside
+        (λ e. b .in-place e ∙ put-same _ _ (o .out e .1 ∙ out-same {l = level} (m - 1) refl at-p) at-p
+        ∙ back-same w whole i l (sym h ∙ e))
+        (λ e. b .stays e ∙ o .stays e .1)

@@ -6,12 +6,11 @@ ghost use mathlib.Core.Path.{_≡_};
 ghost use mathlib.Core.Bool.{true};
 ghost use Prim.Native.Nat.{ℕ, _+_, _-_, _*_, _≤_, _<_};
 ghost use lib.ListN.{length};
-ghost use Rattle.counting.specs.Sum.{count};
 ghost use Rattle.marks.specs.inside.Marks.{marked, Where};
 ghost use Rattle.tables.specs.Table.{Sound, most, most-rows};
 ghost use Rattle.tables.specs.inside.Rows.{tableIn};
 ghost use Rattle.test.specs.Test.{horizon};
-ghost use Rattle.sides.specs.inside.Asks.{ask-width, many, closer, AsksFront};
+ghost use Rattle.sides.specs.inside.Asks.{ask-width, many, repeated, AsksFront};
 ghost use Rattle.sides.specs.inside.Level.{runs-of, part-of, later, busy-of, active-of, start-of};
 ghost use Rattle.sides.specs.inside.Level.{Small, Packed, LeftOut, PutBack};
 use tables::MOST_ROWS;
@@ -63,18 +62,17 @@ pub fn level_of(asks: &[u64], set: u32, level: &mut [u64]) -> usize
     m
 }
 
-// The rows whose spacing is below t, by its inverse: those that are released again before t, where they are released at
-// 0.
+// The rows that are released again before t, where they are released at 0.
 pub fn again_of(asks: &[u64], t: u32) -> u32
-    requires { ⌜ (many (now asks) ≤ most-rows) × (1 ≤ t) ⌝ }
-    ensures { λ r. ⌜ Where (closer (now (asks .entry)) t) (many (now (asks .entry))) r ⌝ }
+    requires { ⌜ Small (now asks) × (1 ≤ t) × (t ≤ horizon) ⌝ }
+    ensures { λ r. ⌜ Where (repeated (now (asks .entry)) t) (many (now (asks .entry))) r ⌝ }
 {
+    let s = (t - 1) as u64;
     let n = asks.len() / ASK_WIDTH;
-    let least = SCALE / (t as u64) + 1;
     let mut set: u32 = 0;
     let mut i: usize = 0;
     while i < n {
-        if least < asks[ASK_WIDTH * i + 1] {
+        if 0 < s * asks[ASK_WIDTH * i + 1] / SCALE {
             set = marks::more(set, i as u32);
         }
         i += 1;
@@ -82,16 +80,14 @@ pub fn again_of(asks: &[u64], t: u32) -> u32
     set
 }
 
-// A level of m rows, those of the set, without row i, whose place the last one takes; and how many are left. A row that
-// is not of the set is not in the level.
-pub fn leave_out(level: &mut [u64], m: usize, set: u32, i: u32) -> usize
-    requires { ⌜ (i < most-rows) × (m ≤ most-rows) × (length (now level) ≡ ask-width * most-rows)
-        × (marked set i ≡ true → count (marked set) i < m) ⌝ }
-    ensures { λ r. ⌜ LeftOut set i (now (level .entry)) m (now (level .exit)) r ⌝ }
+// A level of m rows without the one at p, whose place the last one takes, where it is inside; and how many are left.
+pub fn leave_out(level: &mut [u64], m: usize, inside: bool, p: usize) -> usize
+    requires { ⌜ (m ≤ most-rows) × (length (now level) ≡ ask-width * most-rows) × (inside ≡ true → p < m) ⌝ }
+    ensures { λ r. ⌜ LeftOut inside p (now (level .entry)) m (now (level .exit)) r ⌝ }
 {
-    if marks::has(set, i) {
+    if inside {
         let from = ASK_WIDTH * (m - 1);
-        let to = ASK_WIDTH * (marks::place(set, i) as usize);
+        let to = ASK_WIDTH * p;
         let run = level[from];
         let inverse = level[from + 1];
         level[to] = run;
@@ -101,15 +97,15 @@ pub fn leave_out(level: &mut [u64], m: usize, set: u32, i: u32) -> usize
     m
 }
 
-// The level with what row i asks with at its place again.
-pub fn put_back(level: &mut [u64], set: u32, asks: &[u64], i: u32)
+// The level with what row i asks with at p again, where it was inside.
+pub fn put_back(level: &mut [u64], inside: bool, p: usize, asks: &[u64], i: usize)
     requires { ⌜ (i < many (now asks)) × (many (now asks) ≤ most-rows)
-        × (length (now level) ≡ ask-width * most-rows) ⌝ }
-    ensures { λ _. ⌜ PutBack set i (now (asks .entry)) (now (level .entry)) (now (level .exit)) ⌝ }
+        × (length (now level) ≡ ask-width * most-rows) × (inside ≡ true → p < most-rows) ⌝ }
+    ensures { λ _. ⌜ PutBack inside p i (now (asks .entry)) (now (level .entry)) (now (level .exit)) ⌝ }
 {
-    if marks::has(set, i) {
-        let from = ASK_WIDTH * (i as usize);
-        let to = ASK_WIDTH * (marks::place(set, i) as usize);
+    if inside {
+        let from = ASK_WIDTH * i;
+        let to = ASK_WIDTH * p;
         let run = asks[from];
         let inverse = asks[from + 1];
         level[to] = run;

@@ -19,7 +19,7 @@ use Rattle.sides.specs.inside.Level.{active-of}
 use Rattle.sides.specs.inside.Found.{FixedWithin}
 use Rattle.sides.proofs.Level.{Asking}
 use Rattle.sides.proofs.Asking.{asking-held, asking-packed, all-again, runs-packed}
-use Rattle.sides.proofs.Left.{place-within, left-whole, left-few, left-others}
+use Rattle.sides.proofs.Left.{place-inside, left-whole, left-few, left-others}
 use Rattle.sides.proofs.Lower.{start-within, start-found}
 use Rattle.responses.proofs.Jobs.{Job, jobs-few, length-first, base-within}
 use Rattle.responses.proofs.Jobs.{job-exists, job-base, job-known, next-low}
@@ -29,13 +29,13 @@ use Rattle.responses.proofs.response.Statement.{statement}
 use Rattle.responses.proofs.response.Tie as tie
 
 abbrev Inv-loop : tie.InvT-loop
-Inv-loop asks level above b i q rows run spacing with all first period jobs higher largest₀ low₀ k₀ largest low k =
+Inv-loop asks level above b i q rows run spacing with all first period jobs at higher largest₀ low₀ k₀ largest low k =
     let tb = tableIn rows (many asks) in
     let P = marked above in
     Passed tb P b i q k largest × (k ≤ jobs) × ((s : ℕ) → Start tb P b i q (suc k) s → low ≤ s)
 
 abbrev μ-loop : tie.MeasureT-loop
-μ-loop asks level above b i q rows run spacing with all first period jobs higher largest₀ low₀ k₀ largest low k =
+μ-loop asks level above b i q rows run spacing with all first period jobs at higher largest₀ low₀ k₀ largest low k =
     jobs - k
 
 -- row i
@@ -87,7 +87,7 @@ module _ (c : tie.After-level-of Inv-loop μ-loop) where
   row-marked = own (S .pre .0) more (c .before .before .more .ensures)
 
   place-fits : count (marked more) (S .args .i) < c .level-of .result
-  place-fits = place-within more (c .level-of .ensures) all-whole (S .args .i) row-inside row-marked
+  place-fits = place-inside (c .level-of .ensures) all-whole (S .args .i) row-inside row-marked
 
 -- what is asked for in the first tick
 module _ (f : tie.After-runs-of Inv-loop μ-loop) where
@@ -137,7 +137,7 @@ module _ (r : tie.After-round-up Inv-loop μ-loop) where
 -- the level of the rows above: the row left out of it
 module _ (c : tie.After-leave-out Inv-loop μ-loop) where
   abbrev M : tie.After-round-up Inv-loop μ-loop
-  M = c .before .before
+  M = c .before .before .before
 
   abbrev A : tie.After-active-period Inv-loop μ-loop
   A = M .before
@@ -151,11 +151,18 @@ module _ (c : tie.After-leave-out Inv-loop μ-loop) where
   abbrev left : List ℕ
   left = c .leave-out .last .0
 
+  placed : c .before .before .place .result ≡ count (marked (more O)) (Z .args .i)
+  placed = c .before .before .place .ensures
+
   whole : length left ≡ ask-width * most-rows
-  whole = left-whole (more O) (O .level-of .ensures) (all-whole O) (Z .args .i) (row-inside O) (c .leave-out .ensures)
+  whole =
+      left-whole (more O) (O .level-of .ensures) (all-whole O) (Z .args .i) (row-inside O) (sym (row-marked O)) placed
+      (c .leave-out .ensures)
 
   few-above : c .leave-out .result ≤ most-rows
-  few-above = left-few (more O) (O .level-of .ensures) (all-whole O) (Z .args .i) (row-inside O) (c .leave-out .ensures)
+  few-above =
+      left-few (more O) (O .level-of .ensures) (all-whole O) (Z .args .i) (row-inside O) (sym (row-marked O)) placed
+      (c .leave-out .ensures)
 
   above-fits : ask-width * c .leave-out .result ≤ length left
   above-fits = omega (arith, few-above, whole)
@@ -164,7 +171,8 @@ module _ (c : tie.After-leave-out Inv-loop μ-loop) where
   above-asking =
       let p = Z .pre .0 in
       let i = Z .args .i in
-      let held = left-others (more O) (O .level-of .ensures) (all-whole O) i (row-inside O) (c .leave-out .ensures) in
+      let held = left-others (more O) (O .level-of .ensures) (all-whole O) i (row-inside O) (sym (row-marked O)) placed
+      (c .leave-out .ensures) in
       subst (λ Q. Asking (tb Z) Q (horizon + 1) (take (ask-width * c .leave-out .result) left))
       (sym (others p (more O) (O .before .before .more .ensures)))
       (asking-held (p .sound) (p .asked) (omega arith) (all-again (p .sound) (p .asked) (without (marked (more O)) i))
@@ -232,9 +240,9 @@ active-period-requires c κs = let f = c .before in (asking (W f) .small, within
 
 leave-out-requires : tie.Need-leave-out-requires Inv-loop μ-loop
 leave-out-requires c κs =
-    let w = W (F (c .before .before)) in
-    let p = S w .pre .0 in
-    (omega (arith, p .row, p .sound .few), w .level-of .ensures .few, all-whole w, λ _. place-fits w)
+    let p = c .before in
+    let w = W (F (p .before .before)) in
+    (w .level-of .ensures .few, all-whole w, λ _. omega (arith, p .place .ensures, place-fits w))
 
 loop-holds : tie.Need-loop-holds Inv-loop μ-loop
 loop-holds c =
@@ -302,7 +310,8 @@ response-spec = tie.close (tie.spec Inv-loop μ-loop
     (λ c. search needs) (λ c. omega (arith, spacing (S (W (F c))) .high))
     (λ c κs. let t = spacing (S (W (F c))) in (t .low, omega (arith, same c, S (W (F c)) .pre .0 .within, t .high)))
     (λ c. omega (arith, jobs-within c))
-    (λ c. let p = S (W (F (c .before .before))) .pre .0 in omega (arith, p .row, p .sound .few))
+    (λ c. let p = S (W (F (c .before))) .pre .0 in omega (arith, p .row, p .sound .few))
+    (λ c κs. let p = S (W (F (c .before))) .pre .0 in omega (arith, p .row, p .sound .few)) (λ c. search needs)
     leave-out-requires
     (λ c. omega (arith, first-is (F (A (c .before .before))), length-first (working (Z (c .before .before) .pre .0))))
     loop-holds

@@ -1,6 +1,6 @@
 -- What rows ask with, two numbers a row: the run, and the inverse of the spacing, by which a product does what a
 -- division would.
-use Prim.Native.Nat.{ℕ, _+_, _*_, _/_, _≤_, _<_}
+use Prim.Native.Nat.{ℕ, _+_, _-_, _*_, _/_, _≤_, _<_}
 use mathlib.Core.Path.{_≡_}
 use mathlib.Core.Bool.{Bool}
 use mathlib.Core.List.{List}
@@ -30,12 +30,12 @@ run asks p = getD asks (ask-width * p) 0
 abbrev pub inverse : List ℕ → ℕ → ℕ
 inverse asks p = getD asks (ask-width * p + 1) 0
 
--- row j is released again before t, where it is released at 0; and row p has a spacing below t, by its inverse
+-- row j is released again before t, where it is released at 0; by its spacing, and by the inverse of that
 abbrev pub again : Table → ℕ → ℕ → Bool
 again tb t j = ltb (tb .T j) t
 
-abbrev pub closer : List ℕ → ℕ → ℕ → Bool
-closer asks t p = ltb (inverse-of t) (inverse asks p)
+abbrev pub repeated : List ℕ → ℕ → ℕ → Bool
+repeated asks t p = ltb 0 ((t - 1) * inverse asks p / scale)
 
 -- the list is what the rows of the table ask with
 pub record Asks (tb : Table) (asks : List ℕ) : Type 0 where

@@ -5,7 +5,6 @@ use mathlib.Core.Bool.{Bool, true, false}
 use mathlib.Core.List.{List}
 use lib.ListN.{getD, set}
 use Rattle.counting.specs.Sum.{given, sum, count}
-use Rattle.marks.specs.inside.Marks.{marked}
 use Rattle.tables.specs.Table.{most-rows, most}
 use Rattle.sides.specs.inside.Asks.{ask-width, scale, inverse-of, many, run, inverse}
 
@@ -50,14 +49,13 @@ pub record Packed (asks : List ℕ) (P : ℕ → Bool) (before level : List ℕ)
       ≡ sum (λ j. given (P j) (f (count P j) (run asks j) (inverse asks j))) (many asks)
   pub rest : (k : ℕ) → ask-width * m ≤ k → getD level k 0 ≡ getD before k 0
 
--- of a level of m rows, those of the set, row i is left out, its place taken by the last one, and r are left; a row that
--- is not of the set leaves the level as it is
-pub record LeftOut (set i : ℕ) (level : List ℕ) (m : ℕ) (left : List ℕ) (r : ℕ) : Type 0 where
-  pub inside : marked set i ≡ true →
-      (r ≡ m - 1) × (left ≡ put level (count (marked set) i) (run level (m - 1)) (inverse level (m - 1)))
-  pub outside : marked set i ≡ false → (r ≡ m) × (left ≡ level)
+-- of a level of m rows the one at p is left out, its place taken by the last one, and r are left; where it is not
+-- inside, the level stays as it is
+pub record LeftOut (inside : Bool) (p : ℕ) (level : List ℕ) (m : ℕ) (left : List ℕ) (r : ℕ) : Type 0 where
+  pub out : inside ≡ true → (r ≡ m - 1) × (left ≡ put level p (run level (m - 1)) (inverse level (m - 1)))
+  pub stays : inside ≡ false → (r ≡ m) × (left ≡ level)
 
--- what row i asks with is at its place again, where it is of the set
-pub record PutBack (set i : ℕ) (asks left back : List ℕ) : Type 0 where
-  pub inside : marked set i ≡ true → back ≡ put left (count (marked set) i) (run asks i) (inverse asks i)
-  pub outside : marked set i ≡ false → back ≡ left
+-- what row i asks with is at p again, where it was inside
+pub record PutBack (inside : Bool) (p i : ℕ) (asks left back : List ℕ) : Type 0 where
+  pub in-place : inside ≡ true → back ≡ put left p (run asks i) (inverse asks i)
+  pub stays : inside ≡ false → back ≡ left
