@@ -11,7 +11,7 @@ use lib.Count.{trailingZeros}
 use lib.ListN.{length, take}
 use lib.Seq.{length-take-le}
 use borrow.Author.Needs.{needs}
-use Rattle.counting.specs.Sum.{without}
+use Rattle.counting.specs.Sum.{without, count}
 use Rattle.counting.proofs.Cases.{not-both, and-left}
 use Rattle.counting.proofs.Up.{up-le, lt-up}
 use Rattle.marks.specs.inside.Marks.{marked}
@@ -41,32 +41,32 @@ use Rattle.search.proofs.choose.Statement.{statement}
 use Rattle.search.proofs.choose.Tie as tie
 
 abbrev Inv-loop : tie.InvT-loop
-Inv-loop asks level unplaced repeats tried b runs rows packed all first period row best response rest i above own c t cap low
+Inv-loop asks level unplaced repeats tried b runs rows packed all first period row best response rest i inside at above own c t cap low
     high time len k largest s₀ released due base s =
     Trial (tableIn rows (many asks)) (without (marked unplaced) i) b i len period k s largest
 
 abbrev μ-loop : tie.MeasureT-loop
-μ-loop asks level unplaced repeats tried b runs rows packed all first period row best response rest i above own c t cap low
+μ-loop asks level unplaced repeats tried b runs rows packed all first period row best response rest i inside at above own c t cap low
     high time len k largest s₀ released due base s = horizon + 1 - s
 
 abbrev Inv-jobs : tie.InvT-jobs
-Inv-jobs asks level unplaced repeats tried b runs rows packed all first period row best response rest i above own c t cap low
+Inv-jobs asks level unplaced repeats tried b runs rows packed all first period row best response rest i inside at above own c t cap low
     high time len k₀ largest₀ s₀ k largest s =
     Trial (tableIn rows (many asks)) (without (marked unplaced) i) b i len period k s largest
 
 abbrev μ-jobs : tie.MeasureT-jobs
-μ-jobs asks level unplaced repeats tried b runs rows packed all first period row best response rest i above own c t cap low
+μ-jobs asks level unplaced repeats tried b runs rows packed all first period row best response rest i inside at above own c t cap low
     high time len k₀ largest₀ s₀ k largest s =
     jobs (tableIn rows (many asks)) (without (marked unplaced) i) b i period + 1 - k
 
 abbrev Inv-lengths : tie.InvT-lengths
-Inv-lengths asks level unplaced repeats tried b runs rows packed all first period row best response rest i above own c t cap low₀
+Inv-lengths asks level unplaced repeats tried b runs rows packed all first period row best response rest i inside at above own c t cap low₀
     high₀ time₀ len₀ low high time len =
     Narrowed (tableIn rows (many asks)) (without (marked unplaced) i) b i cap low high time
     × (low < high → (low ≤ len) × (len < high))
 
 abbrev μ-lengths : tie.MeasureT-lengths
-μ-lengths asks level unplaced repeats tried b runs rows packed all first period row best response rest i above own c t cap low₀
+μ-lengths asks level unplaced repeats tried b runs rows packed all first period row best response rest i inside at above own c t cap low₀
     high₀ time₀ len₀ low high time len = high - low
 
 abbrev Inv-rows : tie.InvT-rows
@@ -143,7 +143,7 @@ module _ (w : Under tie.After-level-of) where
 -- ---- the row in hand
 module _ (h : Under tie.After-leave-out) where
   abbrev N : Under tie.After-next
-  N = h .before .before .before
+  N = h .before .before .before .before .before
 
   abbrev rows : Under tie.At-rows
   rows = N .before .before
@@ -165,7 +165,7 @@ module _ (h : Under tie.After-leave-out) where
 
   -- the rows left to try after it
   abbrev left : Under tie.After-less
-  left = h .before .before
+  left = h .before .before .before .before
 
   -- the rows above it
   abbrev P : ℕ → Bool
@@ -199,15 +199,27 @@ module _ (h : Under tie.After-leave-out) where
   row-inside : i < many (S .args .asks .now)
   row-inside = inside
 
-  left-out : LeftOut (set W) i (all W) (W .level-of .result) level many-above
-  left-out = subst (λ l. LeftOut (set W) i l (W .level-of .result) level many-above) (rows .rows .inv .1)
-      (h .leave-out .ensures)
+  -- whether it is in the level, and its place there
+  is-inside : h .before .before .before .has .result ≡ marked (set W) i
+  is-inside = h .before .before .before .has .ensures
+
+  placed : h .before .before .place .result ≡ count (marked (set W)) i
+  placed = h .before .before .place .ensures
+
+  left-out : LeftOut (h .before .before .before .has .result) (h .before .before .place .result) (all W)
+      (W .level-of .result) level many-above
+  left-out =
+      subst (λ l. LeftOut (h .before .before .before .has .result) (h .before .before .place .result) l
+      (W .level-of .result) level many-above) (rows .rows .inv .1) (h .leave-out .ensures)
 
   whole : length level ≡ ask-width * most-rows
-  whole = left-whole (set W) (W .level-of .ensures) (all-whole W) i row-inside left-out
+  whole = left-whole (set W) (W .level-of .ensures) (all-whole W) i row-inside is-inside placed left-out
+
+  place-fits : h .before .before .before .has .result ≡ true → h .before .before .place .result < W .level-of .result
+  place-fits = place-within (set W) (W .level-of .ensures) (all-whole W) i row-inside is-inside placed
 
   few-above : many-above ≤ most-rows
-  few-above = left-few (set W) (W .level-of .ensures) (all-whole W) i row-inside left-out
+  few-above = left-few (set W) (W .level-of .ensures) (all-whole W) i row-inside is-inside placed left-out
 
   fits : ask-width * many-above ≤ length level
   fits = omega (arith, few-above, whole)
@@ -216,7 +228,7 @@ module _ (h : Under tie.After-leave-out) where
   asking =
       asking-held (S .pre .0 .sound) (S .pre .0 .asked) (short-bound W)
       (λ j l. kept-without (marked (set W)) (U S) (again (tb S) (bound W) j) i j (kept W j l)) whole
-      (left-others (set W) (W .level-of .ensures) (all-whole W) i row-inside left-out)
+      (left-others (set W) (W .level-of .ensures) (all-whole W) i row-inside is-inside placed left-out)
 
   runs : Within (tb S .C i)
   runs = S .pre .0 .sound .row i inside .C
@@ -429,15 +441,16 @@ rows-holds c = (seen-first _ _ _ _, refl)
 
 leave-out-requires : Under tie.Need-leave-out-requires
 leave-out-requires c κs =
-    let n = c .before .before in
+    let p = c .before in
+    let n = p .before .before .before in
     let r = n .before .before in
     let w = r .before .before .before .before .before in
-    let p = packed w .pre .0 in
-    let u = p .among _ (r .rows .inv .0 .among _ (n .next .ensures .first .holds)) in (
-      n .next .ensures .inside,
+    let s = packed w .pre .0 in
+    let u = s .among _ (r .rows .inv .0 .among _ (n .next .ensures .first .holds)) in (
       w .level-of .ensures .few,
       ap length (r .rows .inv .1) ∙ all-whole w,
-      place-within (set w) (w .level-of .ensures) (all-whole w) _ (p .inside _ u),
+      place-within (set w) (w .level-of .ensures) (all-whole w) _ (s .inside _ u) (p .before .has .ensures)
+          (p .place .ensures),
     )
 
 lengths-holds : Under tie.Need-lengths-holds
@@ -514,8 +527,8 @@ module _ (c : Under tie.After-put-back) where
   back : c .put-back .last .0 ≡ all (W (G D))
   back =
       let h = G D in
-      back-as-was (set (W h)) (W h .level-of .ensures) (all-whole (W h)) (i h) (row-inside h) (left-out h)
-      (c .put-back .ensures)
+      back-as-was (set (W h)) (W h .level-of .ensures) (all-whole (W h)) (i h) (row-inside h) (is-inside h) (placed h)
+      (left-out h) (c .put-back .ensures)
 
 put-back-requires : Under tie.Need-put-back-requires
 put-back-requires c κs =
@@ -523,6 +536,7 @@ put-back-requires c κs =
       inside h,
       S h .pre .0 .sound .few,
       whole h,
+      λ e. omega (arith, place-fits h e, W h .level-of .ensures .few),
     )
 
 rows-again : Under tie.Need-rows-again
@@ -558,7 +572,7 @@ choose-spec = tie.close (tie.spec Inv-loop μ-loop Inv-jobs μ-jobs Inv-lengths 
     active-period-requires rows-holds
     (λ c κs. pos-of-ne-zero (c .rows-test .taken))
     (λ c κs. (c .next .ensures .inside, c .next .ensures .first .holds))
-    leave-out-requires (λ c. search needs)
+    (λ c κs. c .before .next .ensures .inside) (λ c κs. c .before .before .next .ensures .inside) (λ c. search needs) leave-out-requires (λ c. search needs)
     (λ c. omega (arith, N (c .before .before) .next .ensures .inside))
     (λ c. N (c .before .before) .next .ensures .inside)
     (λ c κs. search needs) (λ c. omega (arith, top-run c, runs (H c) .high)) lengths-holds
@@ -572,7 +586,7 @@ choose-spec = tie.close (tie.spec Inv-loop μ-loop Inv-jobs μ-jobs Inv-lengths 
     (λ c. omega (arith, job-few (J (E (c .before .before)))))
     (λ c. let a = E (c .before .before) in omega (arith, within a, runs (R (I a)) .high)) jobs-less jobs-again
     (λ c. let x = I (c .before .before) in omega (arith, working x .most, runs (R x) .high)) next-length-requires
-    lengths-less lengths-again put-back-requires
+    lengths-less lengths-again (λ c. search needs) put-back-requires
     (λ c. pos-of-ne-zero (N (G (D (c .before .before .before .before))) .before .rows-test .taken)) rows-again
     (λ c. left (G (D (c .before .before .before .before))) .less .ensures .smaller) rows-again-2
     (λ c. left (G (D (c .before .before .before))) .less .ensures .smaller) rows-again-3
