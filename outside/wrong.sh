@@ -61,7 +61,7 @@ wrong 'each row in another row'\''s part' surface/operations.rs \
         part'
 wrong 'ranks by position below rank n' by_hand/search.rs \
     'in unplaced.iter().enumerate()' \
-    'in unplaced.iter().enumerate().skip(if unplaced.len() == tasks.len() { 0 } else { last })'
+    'in unplaced.iter().enumerate().skip(if unplaced.len() == tasks.len() { 0 } else { unplaced.len() - 1 })'
 wrong 'a busy period of exactly the horizon refused' surface/trial.rs 't > HORIZON' 't >= HORIZON'
 wrong 'a busy period one tick beyond the horizon let through' surface/trial.rs 't > HORIZON' 't > HORIZON + 1'
 wrong 'refused 5 for 4' by_hand/search.rs 'Refusal(4, 0)' 'Refusal(5, 0)'
@@ -137,8 +137,8 @@ wrong 'sums that wrap at 2^32' surface/trial.rs \
     'let next = first + released(t - 1 & 0xffff_ffff) & 0xffff_ffff;'
 wrong 'an inverse one too small' by_hand/level.rs '(1 << SHIFT) / u64::from(t) + 1' '(1 << SHIFT) / u64::from(t)'
 wrong 'inverses of 30 bits' by_hand/level.rs 'SHIFT: u32 = 40' 'SHIFT: u32 = 30'
-wrong 'ranks given to the wrong rows' by_hand/search.rs '        unplaced.copy_within(at + 1..rank, at);
-' ''
+wrong 'ranks given to the wrong rows' by_hand/search.rs 'plan[row] = Planned' 'plan[at] = Planned'
+wrong 'a row that is released again left out' by_hand/again.rs 'u64::from(*t) < busy' 'u64::from(*t) * 2 < busy'
 wrong 'row 31 not tried at rank 32' by_hand/search.rs \
     'in unplaced.iter().enumerate()' \
     'in unplaced.iter().enumerate().take(MOST_ROWS - 1)'

@@ -2,6 +2,7 @@
 //! product against.
 #![no_std]
 
+mod again;
 mod level;
 mod play;
 mod response;

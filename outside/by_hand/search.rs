@@ -1,6 +1,7 @@
-//! The choice of ranks and lengths, with the rows that have no rank side by side.
+//! The choice of ranks and lengths, from the lowest rank up.
 
-use crate::level::{released, runs, Asks};
+use crate::again::Again;
+use crate::level::{released, runs};
 use crate::surface::answer::Refusal;
 use crate::surface::rows::{Plan, Planned, Task, MOST_ROWS};
 use crate::trial::{least_idle, Trial};
@@ -13,11 +14,9 @@ struct Best {
     response: u64,
 }
 
-/// Tries each row that can still win, with all others above it: it changes places with the last.
-fn best_of_rank(tasks: &[Task], unplaced: &[usize], level: &mut [Asks], blocking: u64) -> Option<Best> {
-    let first = blocking + runs(level);
-    let active = least_idle(first, |s| released(level, s))?;
-    let last = level.len() - 1;
+/// Tries each row that can still win, with all others above it.
+fn best_of_rank(tasks: &[Task], unplaced: &[usize], again: &mut Again, first: u64) -> Option<Best> {
+    let active = least_idle(first, |s| released(again.level(), s))?;
     let mut best: Option<Best> = None;
     for (at, row) in unplaced.iter().enumerate() {
         let own = tasks[*row];
@@ -25,34 +24,31 @@ fn best_of_rank(tasks: &[Task], unplaced: &[usize], level: &mut [Asks], blocking
         if cap == 0 {
             break;
         }
-        level.swap(at, last);
-        let above = &level[..last];
+        let above = again.without(*row);
         let trial = Trial { own, first, active, released: move |s| released(above, s) };
         if let Some((length, response)) = trial.shortest(cap) {
             best = Some(Best { at, length, response });
         }
-        level.swap(at, last);
     }
     best
 }
 
 pub fn plan(tasks: &[Task]) -> Result<Plan, Refusal> {
-    let mut level = [Asks::default(); MOST_ROWS];
-    let mut unplaced = [0; MOST_ROWS];
-    for (i, task) in tasks.iter().enumerate() {
-        level[i] = Asks::of(*task);
-        unplaced[i] = i;
-    }
-    let all = &level[..tasks.len()];
-    least_idle(runs(all), |s| released(all, s)).ok_or(Refusal(4, 0))?;
+    let mut again = Again::all(tasks);
+    let mut runs = runs(again.level());
+    let busy = least_idle(runs, |s| released(again.level(), s)).ok_or(Refusal(4, 0))?;
+    again.keep(tasks, busy);
+    let mut unplaced: [usize; MOST_ROWS] = core::array::from_fn(|row| row);
     let mut plan = [Planned::default(); MOST_ROWS];
     let mut blocking = 0;
     for rank in (1..=tasks.len()).rev() {
-        let best = best_of_rank(tasks, &unplaced[..rank], &mut level[..rank], blocking).ok_or(Refusal(5, 0))?;
-        let Best { at, length, response } = best;
-        plan[unplaced[at]] = Planned { rank: rank as u32, length: length as u32, response: response as u32 };
+        let best = best_of_rank(tasks, &unplaced[..rank], &mut again, blocking + runs);
+        let Best { at, length, response } = best.ok_or(Refusal(5, 0))?;
+        let row = unplaced[at];
+        plan[row] = Planned { rank: rank as u32, length: length as u32, response: response as u32 };
         blocking = blocking.max(length - 1);
-        level.copy_within(at + 1..rank, at);
+        runs -= u64::from(tasks[row][0]);
+        again.remove(row);
         unplaced.copy_within(at + 1..rank, at);
     }
     Ok(plan)
