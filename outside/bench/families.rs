@@ -73,6 +73,7 @@ pub fn hard() -> Vec<(&'static str, Call)> {
     let many_releases = [1_639, M, M, 1, M, 2, 1, M, 3, 1, M, 8, 1, M, 25];
     let tight_deadline = [6_383, 6_537, M, 1, M, 3, 1, M, 3, 1, M, 4, 1, M, 13];
     let all_but_one_fail = [1, 3_000, 3, 1, 5_000, 8, 1, 30_000, 25, 1_639, 30_000, M, 1, M, 2];
+    let again = [1, 3_000, 3, 1, 5_000, 8, 1, 30_000, 25, 1_612, 30_000, M, 1, M, 2];
     let ones_last = [1, M, 2, 1, M, 3, 1, M, 8, 1, M, 25, 1_639, M, M];
     let refused = [6_382, 1_633, M, 1, 13, 3, 1, 19_769, 3, 1, 67_162, 4, 1, 17_555, 13];
     let never_passes = [900_000, 899_999, M];
@@ -82,6 +83,10 @@ pub fn hard() -> Vec<(&'static str, Call)> {
         (
             "plan: 27 rows (1,999000,M), spacings 3, 8, 25, one of C 1,639",
             [ones(999_000, 27), all_but_one_fail.to_vec()],
+        ),
+        (
+            "plan: 27 rows (1,999000,900000), released again, spacings 3, 8, 25, one of C 1,612",
+            [[1, 999_000, 900_000].repeat(27), again.to_vec()],
         ),
         ("plan: spacings 2, 3, 8, 25, one of C 1,639, 27 rows (1,M,M)", [ones_last.to_vec(), ones(M, 27)]),
         ("plan: 27 rows (1,999000,M), one (6382,1633,M), refused", [ones(999_000, 27), refused.to_vec()]),

@@ -22,7 +22,8 @@ pub struct Filling {
 // As many rows are unplaced as the rank says that is filled next, and all of them are tried. The busy period says which
 // rows are released again in it.
 pub fn fill(rows: [Row; 32], n: usize, asks: &[u64], busy: u32) -> Filling
-    requires { ⌜ Sound (tableIn rows n) × Busy (tableIn rows n) busy × (busy ≤ horizon) × Asks (tableIn rows n) (now asks) ⌝ }
+    requires { ⌜ Sound (tableIn rows n) × Busy (tableIn rows n) busy × (busy ≤ horizon)
+        × Asks (tableIn rows n) (now asks) ⌝ }
     ensures { λ r. ⌜ Ended (tableIn rows n) r ⌝ }
 {
     let mut plan = [0u32; PLAN_WIDTH * MOST_ROWS];

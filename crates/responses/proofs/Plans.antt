@@ -1,19 +1,14 @@
 -- Laws of the longest length below a rank, row by row.
 use Prim.Native.Nat.{ℕ, pred, max, _+_, _≤_, _<_}
-use mathlib.Core.Path.{_≡_, refl, _∙_}
-use mathlib.Core.Bool.{Bool, true, false, _&&_, _||_}
+use mathlib.Core.Path.{_≡_, refl}
 use native.Mathlib.Omega.{arith}
 use native.Mathlib.Numerals.{add-one}
-use lib.Dec.{ltb}
-use borrow.Author.Tests.{lt-ltb, le-ltb, eq-eqb, ne-eqb}
+use borrow.Author.Tests.{lt-ltb, le-ltb}
 use Rattle.counting.specs.Sum.{given, largest}
-use Rattle.marks.specs.inside.Marks.{marked, More}
 use Rattle.tables.specs.Plan.{Plan, longer}
-use Rattle.test.specs.Test.{above, below, longest, blocking}
-use Rattle.counting.proofs.Cases.{by-le, by-eq}
+use Rattle.test.specs.Test.{below, longest, blocking}
 use Rattle.counting.proofs.Sum.{given-yes, given-no}
-use Rattle.marks.proofs.Marks.{none}
-use Rattle.responses.specs.inside.Asked.{Above, Blocks}
+use Rattle.responses.specs.inside.Asked.{Blocks}
 
 module _ (p : Plan) (r : ℕ) where
   -- the longest length below, of the rows before i: a row blocks with its length

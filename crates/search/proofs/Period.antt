@@ -45,7 +45,9 @@ module _ {tb : Table} {asks : List ℕ} {unplaced repeats tried b runs : ℕ}
       period-first = active-first a positive b i f (s .inside i e) e
 
       pub period-exists : FixedWithin (active-of level first) 1 first
-      period-exists = active-within a positive b i f (s .inside i e) e (exists .2) (omega (arith, exists .2, s .busy .within)) (exists .1)
+      period-exists =
+          active-within a positive b i f (s .inside i e) e (exists .2) (omega (arith, exists .2, s .busy .within))
+          (exists .1)
 
       pub period-found : {L : ℕ} → Fixed (active-of level first) 1 L → Active tb (without U i) b i L
       period-found x =

@@ -41,9 +41,9 @@ fn next_length(low: u32, high: u32, cap: u32) -> u32
     low + (high - low) / 2
 }
 
-// The rows to try are given beside the unplaced ones, with the runs of these added up; and room for their level is lent,
-// which holds those that are released again in a busy period. The active period, and what is asked for in its first
-// tick, are the same for every row of the level. No row is tried after one that takes the rank with length 1.
+// The rows to try are given beside the unplaced ones, with the runs of these added up; room for a level is lent, and
+// those go into it that are released again in a busy period. The active period, and what is asked for in its first
+// tick, are the same for every row tried. No row is tried after one that takes the rank with length 1.
 pub fn choose(
     rows: [Row; 32],
     asks: &[u64],

@@ -110,7 +110,8 @@ module _ {tb : Table} {asks : List ℕ} (sound : Sound tb) (a : Asks tb asks) wh
               ∙ sum-ext _ _ (tb .n)
               (λ j l.
               let T = sound .row j l .T in
-              let small : s * tb .T j ≤ horizon * most = mul-le-mul {n₂ = horizon} {m₂ = most} (omega arith) (T .high) in
+              let small : s * tb .T j ≤ horizon * most =
+              mul-le-mul {n₂ = horizon} {m₂ = most} (omega arith) (T .high) in
               rw (a .runs j l, a .inverses j l, by-inverse s (tb .T j) (T .low) (omega arith))) in
               ap (λ x. sum (λ j. given (P j) ((0 / tb .T j + 1) * tb .C j)) (tb .n) + x) held
               ∙ sym (sum-add (λ j. given (P j) ((0 / tb .T j + 1) * tb .C j))

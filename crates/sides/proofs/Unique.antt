@@ -1,5 +1,5 @@
--- Any two answers that the promises of `asks_of`, `level_of`, `busy_period` and `active_period` allow are equal; the
--- promises of the right sides are equations.
+-- Any two answers that the promises of `asks_of`, `level_of`, `leave_out`, `put_back`, `busy_period` and
+-- `active_period` allow are equal; the promises of the right sides are equations, and that of `again_of` is about marks.
 use Prim.Native.Nat.{ℕ, _*_, _+_, _≤_, _<_}
 use mathlib.Core.Path.{_≡_, refl, sym, ap, _∙_}
 use mathlib.Core.Bool.{Bool}
@@ -7,11 +7,11 @@ use mathlib.Core.List.{List}
 use native.Mathlib.Omega.{arith}
 use lib.ListN.{length, getD}
 use lib.Seq.{getD-take}
-use Rattle.counting.proofs.Cases.{by-le}
+use Rattle.counting.proofs.Cases.{by-le, by-bool}
 use Rattle.counting.proofs.Least.{least-unique}
 use Rattle.tables.specs.Table.{Table}
 use Rattle.sides.specs.inside.Asks.{ask-width, inverse-of, run, inverse, AsksFront}
-use Rattle.sides.specs.inside.Level.{Packed}
+use Rattle.sides.specs.inside.Level.{Packed, LeftOut, PutBack}
 use Rattle.sides.specs.inside.Found.{Fixed, BusyOf}
 use Rattle.sides.specs.declared.periods.Busy.{Busy}
 use Rattle.sides.specs.declared.periods.Busy.the-variants.{At, Beyond}
@@ -51,6 +51,18 @@ module _ (asks : List ℕ) (P : ℕ → Bool) (before : List ℕ) where
             (λ p. by-le m p (λ h. behind (ask-width * p) (omega arith)) (row (λ c _. c) p))
             (λ p. by-le m p (λ h. behind (ask-width * p + 1) (omega arith)) (row (λ _ i. i) p)),
       )
+
+pub left-out-unique : (inside : Bool) (p : ℕ) (level : List ℕ) (m : ℕ) (l k : List ℕ) (r s : ℕ) →
+    LeftOut inside p level m l r → LeftOut inside p level m k s → (r ≡ s) × (l ≡ k)
+left-out-unique inside p level m l k r s x y =
+    by-bool inside
+    (λ e. (x .out e .0 ∙ sym (y .out e .0), x .out e .1 ∙ sym (y .out e .1)))
+    (λ e. (x .stays e .0 ∙ sym (y .stays e .0), x .stays e .1 ∙ sym (y .stays e .1)))
+
+pub put-back-unique : (inside : Bool) (p i : ℕ) (asks left l k : List ℕ) → PutBack inside p i asks left l →
+    PutBack inside p i asks left k → l ≡ k
+put-back-unique inside p i asks left l k x y =
+    by-bool inside (λ e. x .in-place e ∙ sym (y .in-place e)) (λ e. x .stays e ∙ sym (y .stays e))
 
 pub busy-of-unique : (level : List ℕ) (a b : Busy) → BusyOf level a → BusyOf level b → a ≡ b
 busy-of-unique level (At t) (At u) x y = ap At (least-unique (x .0) (y .0))

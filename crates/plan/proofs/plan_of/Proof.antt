@@ -17,7 +17,7 @@ use Rattle.sides.proofs.Busy.{busy-asks, busy-found}
 use Rattle.tables.specs.Planned.{planned-width}
 use Rattle.tables.proofs.Answered.{_past_}
 use Rattle.tables.proofs.Front.{room-refuses, room-clear}
-use Rattle.times.proofs.Busy.{busy-refuses, busy-within, busy-clear}
+use Rattle.times.proofs.Busy.{busy-refuses, busy-clear}
 use Rattle.plan.proofs.Answers.{stopped-refuses, chosen-clear, plan-given}
 use Rattle.plan.proofs.plan_of.Statement.{statement}
 use Rattle.plan.proofs.plan_of.Tie as tie
@@ -99,5 +99,6 @@ pub plan-of-spec : {M : Type 1} → statement M
 plan-of-spec = tie.close (tie.spec (λ c. search needs) returns (λ c κs. search needs)
     (λ c. omega (arith, T c .pre .few)) (λ c. fits c) (λ c. sym (length-take-le _ _ (fits (c .before))))
     (λ c κs. busy-asks (T (c .before) .pre) (asks (c .before))) (λ c. search needs) (λ c. search needs)
-    returns-2 (λ c. omega (arith, at c .1)) (λ c κs. (S c .pre, at c .0, at c .1, asks (A c))) returns-3 write-requires (λ c. search needs)
+    returns-2 (λ c. omega (arith, at c .1)) (λ c κs. (S c .pre, at c .0, at c .1, asks (A c)))
+    returns-3 write-requires (λ c. search needs)
     (λ c. search needs) (λ c. search needs) returns-4)

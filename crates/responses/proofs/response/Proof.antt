@@ -1,6 +1,6 @@
 -- `response` meets its contract: the largest over the jobs passed, each start no lower than the one before plus C.
 use Prim.Native.Nat.{suc, ℕ, max, _≤_, _<_, _+_, _-_, _*_}
-use mathlib.Core.Path.{_≡_, refl, sym, ap, _∙_, subst}
+use mathlib.Core.Path.{_≡_, sym, ap, _∙_, subst}
 use mathlib.Core.Bool.{Bool, true}
 use mathlib.Core.Logic.{⊎-elim}
 use mathlib.Core.List.{List}

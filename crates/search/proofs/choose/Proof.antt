@@ -41,40 +41,42 @@ use Rattle.search.proofs.choose.Statement.{statement}
 use Rattle.search.proofs.choose.Tie as tie
 
 abbrev Inv-loop : tie.InvT-loop
-Inv-loop asks level unplaced repeats tried b runs rows packed all first period row best response rest i inside at above own c t cap low
-    high time len k largest s₀ released due base s =
+Inv-loop asks level unplaced repeats tried b runs rows packed all first period row best response rest i inside at
+    above own c t cap low high time len k largest s₀ released due base s =
     Trial (tableIn rows (many asks)) (without (marked unplaced) i) b i len period k s largest
 
 abbrev μ-loop : tie.MeasureT-loop
-μ-loop asks level unplaced repeats tried b runs rows packed all first period row best response rest i inside at above own c t cap low
-    high time len k largest s₀ released due base s = horizon + 1 - s
+μ-loop asks level unplaced repeats tried b runs rows packed all first period row best response rest i inside at
+    above own c t cap low high time len k largest s₀ released due base s = horizon + 1 - s
 
 abbrev Inv-jobs : tie.InvT-jobs
-Inv-jobs asks level unplaced repeats tried b runs rows packed all first period row best response rest i inside at above own c t cap low
-    high time len k₀ largest₀ s₀ k largest s =
+Inv-jobs asks level unplaced repeats tried b runs rows packed all first period row best response rest i inside at
+    above own c t cap low high time len k₀ largest₀ s₀ k largest s =
     Trial (tableIn rows (many asks)) (without (marked unplaced) i) b i len period k s largest
 
 abbrev μ-jobs : tie.MeasureT-jobs
-μ-jobs asks level unplaced repeats tried b runs rows packed all first period row best response rest i inside at above own c t cap low
-    high time len k₀ largest₀ s₀ k largest s =
+μ-jobs asks level unplaced repeats tried b runs rows packed all first period row best response rest i inside at
+    above own c t cap low high time len k₀ largest₀ s₀ k largest s =
     jobs (tableIn rows (many asks)) (without (marked unplaced) i) b i period + 1 - k
 
 abbrev Inv-lengths : tie.InvT-lengths
-Inv-lengths asks level unplaced repeats tried b runs rows packed all first period row best response rest i inside at above own c t cap low₀
-    high₀ time₀ len₀ low high time len =
+Inv-lengths asks level unplaced repeats tried b runs rows packed all first period row best response rest i inside at
+    above own c t cap low₀ high₀ time₀ len₀ low high time len =
     Narrowed (tableIn rows (many asks)) (without (marked unplaced) i) b i cap low high time
     × (low < high → (low ≤ len) × (len < high))
 
 abbrev μ-lengths : tie.MeasureT-lengths
-μ-lengths asks level unplaced repeats tried b runs rows packed all first period row best response rest i inside at above own c t cap low₀
-    high₀ time₀ len₀ low high time len = high - low
+μ-lengths asks level unplaced repeats tried b runs rows packed all first period row best response rest i inside at
+    above own c t cap low₀ high₀ time₀ len₀ low high time len = high - low
 
 abbrev Inv-rows : tie.InvT-rows
-Inv-rows asks level₀ unplaced repeats tried b runs rows packed all first period row₀ best₀ response₀ rest₀ level row best response rest =
+Inv-rows asks level₀ unplaced repeats tried b runs rows packed all first period row₀ best₀ response₀ rest₀ level row
+    best response rest =
     Seen (tableIn rows (many asks)) (marked unplaced) b (marked tried) row best response rest × (level ≡ level₀)
 
 abbrev μ-rows : tie.MeasureT-rows
-μ-rows asks level₀ unplaced repeats tried b runs rows packed all first period row₀ best₀ response₀ rest₀ level row best response rest =
+μ-rows asks level₀ unplaced repeats tried b runs rows packed all first period row₀ best₀ response₀ rest₀ level row
+    best response rest =
     rest
 
 -- a place, or a need, under these invariants
@@ -566,13 +568,15 @@ returns-2 c =
 
 pub choose-spec : {M : Type 1} → statement M
 choose-spec = tie.close (tie.spec Inv-loop μ-loop Inv-jobs μ-jobs Inv-lengths μ-lengths Inv-rows μ-rows
-    (λ c κs. search needs) level-of-requires (λ c. let w = period-there (c .before .before) in omega (arith, w .under, w .within))
+    (λ c κs. search needs) level-of-requires
+    (λ c. let w = period-there (c .before .before) in omega (arith, w .under, w .within))
     (λ c. omega (arith, c .before .before .level-of .ensures .few))
     (λ c. all-fits (c .before .before)) (λ c. sym (length-take-le _ _ (all-fits (c .before .before .before))))
     active-period-requires rows-holds
     (λ c κs. pos-of-ne-zero (c .rows-test .taken))
     (λ c κs. (c .next .ensures .inside, c .next .ensures .first .holds))
-    (λ c κs. c .before .next .ensures .inside) (λ c κs. c .before .before .next .ensures .inside) (λ c. search needs) leave-out-requires (λ c. search needs)
+    (λ c κs. c .before .next .ensures .inside) (λ c κs. c .before .before .next .ensures .inside)
+    (λ c. search needs) leave-out-requires (λ c. search needs)
     (λ c. omega (arith, N (c .before .before) .next .ensures .inside))
     (λ c. N (c .before .before) .next .ensures .inside)
     (λ c κs. search needs) (λ c. omega (arith, top-run c, runs (H c) .high)) lengths-holds

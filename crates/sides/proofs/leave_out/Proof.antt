@@ -3,7 +3,6 @@ use Prim.Native.Nat.{_<_}
 use mathlib.Core.Path.{refl}
 use native.Mathlib.Omega.{arith}
 use lib.ListN.{length-set}
-use borrow.Author.Needs.{needs}
 use Rattle.counting.proofs.Cases.{not-both}
 use Rattle.sides.proofs.leave_out.Statement.{statement}
 use Rattle.sides.proofs.leave_out.Tie as tie

@@ -138,7 +138,8 @@ loop-again c =
     )
 
 pub fill-spec : {M : Type 1} → statement M
-fill-spec = tie.close (tie.spec Inv-loop μ-loop (λ c κs. let p = c .before .pre in (busy-asks (p .0) (p .3) .0, p .1 .low, p .2)) (λ c. search needs)
+fill-spec = tie.close (tie.spec Inv-loop μ-loop
+    (λ c κs. let p = c .before .pre in (busy-asks (p .0) (p .3) .0, p .1 .low, p .2)) (λ c. search needs)
     (λ c κs. let p = c .before .before .pre .0 in (p .some, p .few))
     (λ c κs. let p = c .before .before .before .pre in busy-asks (p .0) (p .3) .0) loop-holds
     (λ c κs. search needs) (λ c. sym (c .before .before .before .loop .inv .1)) choose-requires (λ c. search needs)
