@@ -1,5 +1,5 @@
 -- Any two answers that the promises of `asks_of`, `level_of`, `leave_out`, `put_back`, `busy_period` and
--- `active_period` allow are equal; the promises of the right sides are equations, and that of `again_of` is about marks.
+-- `active_period` allow are equal; the promises of the right sides are equations, that of `again_of` is about marks.
 use Prim.Native.Nat.{ℕ, _*_, _+_, _≤_, _<_}
 use mathlib.Core.Path.{_≡_, refl, sym, ap, _∙_}
 use mathlib.Core.Bool.{Bool}
