@@ -66,6 +66,10 @@ module _ {asks : List ℕ} {P : ℕ → Bool} {level : List ℕ} {m : ℕ} (w : 
           same = λ f. ap (sum (λ p. f (run l p) (inverse l p))) e ∙ front f ∙ w .same f;
         }
 
+-- of the rows at which P passes those are kept, at which Q passes, that are released again before the bound
+abbrev pub Kept : Table → (ℕ → Bool) → ℕ → (ℕ → Bool) → Type 0
+Kept tb P bound Q = (j : ℕ) → j < tb .n → Q j ≡ (P j && again tb bound j)
+
 module _ {tb : Table} {asks : List ℕ} (sound : Sound tb) (a : Asks tb asks) where
   rows : many asks ≡ tb .n
   rows = omega (arith, a .long)
@@ -90,8 +94,8 @@ module _ {tb : Table} {asks : List ℕ} (sound : Sound tb) (a : Asks tb asks) wh
 
   -- the level holds the rows at which P passes and that are released again before the bound
   module _ {P : ℕ → Bool} {bound : ℕ} (within : bound ≤ horizon + 1) where
-    asking-of : {Q : ℕ → Bool} {level : List ℕ} → ((j : ℕ) → j < tb .n → Q j ≡ (P j && again tb bound j)) →
-        Holding asks Q level (many level) → Asking tb P bound level
+    asking-of : {Q : ℕ → Bool} {level : List ℕ} → Kept tb P bound Q → Holding asks Q level (many level) →
+        Asking tb P bound level
     unfolding later load
     asking-of {Q} {level} kept w =
         record {
@@ -121,19 +125,19 @@ module _ {tb : Table} {asks : List ℕ} (sound : Sound tb) (a : Asks tb asks) wh
         }
 
     -- the rows that are held at the front of an array
-    pub asking-held : {Q : ℕ → Bool} {level : List ℕ} {m : ℕ} →
-        ((j : ℕ) → j < tb .n → Q j ≡ (P j && again tb bound j)) → length level ≡ ask-width * most-rows →
-        Holding asks Q level m → Asking tb P bound (take (ask-width * m) level)
+    pub asking-held : {Q : ℕ → Bool} {level : List ℕ} {m : ℕ} → Kept tb P bound Q →
+        length level ≡ ask-width * most-rows → Holding asks Q level m →
+        Asking tb P bound (take (ask-width * m) level)
     asking-held kept whole w = asking-of kept (held-front w whole)
 
     -- the rows of a set, packed
-    pub asking-packed : {Q : ℕ → Bool} {before level : List ℕ} {m : ℕ} →
-        ((j : ℕ) → j < tb .n → Q j ≡ (P j && again tb bound j)) → length level ≡ ask-width * most-rows →
-        Packed asks Q before level m → Asking tb P bound (take (ask-width * m) level)
+    pub asking-packed : {Q : ℕ → Bool} {before level : List ℕ} {m : ℕ} → Kept tb P bound Q →
+        length level ≡ ask-width * most-rows → Packed asks Q before level m →
+        Asking tb P bound (take (ask-width * m) level)
     asking-packed kept whole w = asking-held kept whole (packed-holding w)
 
   -- no spacing passes the horizon: up to it all rows are released again
-  pub all-again : (P : ℕ → Bool) (j : ℕ) → j < tb .n → P j ≡ (P j && again tb (horizon + 1) j)
+  pub all-again : (P : ℕ → Bool) → Kept tb P (horizon + 1) P
   all-again P j l =
       let T = sound .row j l .T .high in
       sym (ap (λ b. P j && b) (lt-ltb (tb .T j) (horizon + 1) (omega arith)) ∙ and-true (P j))

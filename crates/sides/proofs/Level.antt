@@ -1,5 +1,5 @@
--- Laws of a level: what it asks for is what the rows of its table ask for, within the horizon; so each right side over
--- it is that of the test, and so is each least fixed point.
+-- Laws of a level: before a bound, what it asks for is what the rows of its table ask for; so each right side over it
+-- is that of the test, and so is each least fixed point.
 use Prim.Native.Nat.{ℕ, suc, _+_, _-_, _*_, _/_, _≤_, _<_}
 use mathlib.Core.Path.{_≡_, sym, ap, _∙_}
 use mathlib.Core.Bool.{Bool, true}

@@ -26,7 +26,7 @@ use Rattle.sides.specs.inside.Asks.{ask-width, many, again}
 use Rattle.sides.specs.inside.Level.{active-of, start-of, LeftOut}
 use Rattle.sides.specs.inside.Found.{FixedWithin}
 use Rattle.sides.proofs.Level.{Asking, start-of-is}
-use Rattle.sides.proofs.Asking.{asking-held, asking-packed}
+use Rattle.sides.proofs.Asking.{Kept, asking-held, asking-packed}
 use Rattle.sides.proofs.Left.{place-within, left-whole, left-few, left-others, back-as-was}
 use Rattle.responses.proofs.Jobs.{Working, jobs-few, length-first, base-within}
 use Rattle.choice.specs.Choice.{Fits}
@@ -113,7 +113,7 @@ module _ (w : Under tie.After-level-of) where
   abbrev bound : ℕ
   bound = packed .pre .0 .busy .period
 
-  kept : (j : ℕ) → j < tb packed .n → marked set j ≡ (U packed j && again (tb packed) bound j)
+  kept : Kept (tb packed) (U packed) bound (marked set)
   kept j l = packs .both .ensures j ∙ ap (λ x. U packed j && x) (packed .pre .0 .repeat j l)
 
   abbrev all : List ℕ
@@ -198,30 +198,32 @@ module _ (h : Under tie.After-leave-out) where
   abbrev level : List ℕ
   level = h .leave-out .last .0
 
-  row-inside : i < many (S .args .asks .now)
-  row-inside = inside
-
   -- whether it is in the level, and its place there
-  is-inside : h .before .before .before .has .result ≡ marked (set W) i
+  abbrev held : Bool
+  held = h .before .before .before .has .result
+
+  abbrev at : ℕ
+  at = h .before .before .place .result
+
+  is-inside : held ≡ marked (set W) i
   is-inside = h .before .before .before .has .ensures
 
-  placed : h .before .before .place .result ≡ count (marked (set W)) i
+  placed : at ≡ count (marked (set W)) i
   placed = h .before .before .place .ensures
 
-  left-out : LeftOut (h .before .before .before .has .result) (h .before .before .place .result) (all W)
-      (W .level-of .result) level many-above
+  left-out : LeftOut held at (all W) (W .level-of .result) level many-above
   left-out =
-      subst (λ l. LeftOut (h .before .before .before .has .result) (h .before .before .place .result) l
-      (W .level-of .result) level many-above) (rows .rows .inv .1) (h .leave-out .ensures)
+      subst (λ l. LeftOut held at l (W .level-of .result) level many-above) (rows .rows .inv .1)
+      (h .leave-out .ensures)
 
   whole : length level ≡ ask-width * most-rows
-  whole = left-whole (set W) (W .level-of .ensures) (all-whole W) i row-inside is-inside placed left-out
+  whole = left-whole (set W) (W .level-of .ensures) (all-whole W) i inside is-inside placed left-out
 
-  place-fits : h .before .before .before .has .result ≡ true → h .before .before .place .result < W .level-of .result
-  place-fits = place-within (set W) (W .level-of .ensures) (all-whole W) i row-inside is-inside placed
+  place-fits : held ≡ true → at < W .level-of .result
+  place-fits = place-within (set W) (W .level-of .ensures) (all-whole W) i inside is-inside placed
 
   few-above : many-above ≤ most-rows
-  few-above = left-few (set W) (W .level-of .ensures) (all-whole W) i row-inside is-inside placed left-out
+  few-above = left-few (set W) (W .level-of .ensures) (all-whole W) i inside is-inside placed left-out
 
   fits : ask-width * many-above ≤ length level
   fits = omega (arith, few-above, whole)
@@ -230,7 +232,7 @@ module _ (h : Under tie.After-leave-out) where
   asking =
       asking-held (S .pre .0 .sound) (S .pre .0 .asked) (short-bound W)
       (λ j l. kept-without (marked (set W)) (U S) (again (tb S) (bound W) j) i j (kept W j l)) whole
-      (left-others (set W) (W .level-of .ensures) (all-whole W) i row-inside is-inside placed left-out)
+      (left-others (set W) (W .level-of .ensures) (all-whole W) i inside is-inside placed left-out)
 
   runs : Within (tb S .C i)
   runs = S .pre .0 .sound .row i inside .C
@@ -529,7 +531,7 @@ module _ (c : Under tie.After-put-back) where
   back : c .put-back .last .0 ≡ all (W (G D))
   back =
       let h = G D in
-      back-as-was (set (W h)) (W h .level-of .ensures) (all-whole (W h)) (i h) (row-inside h) (is-inside h) (placed h)
+      back-as-was (set (W h)) (W h .level-of .ensures) (all-whole (W h)) (i h) (inside h) (is-inside h) (placed h)
       (left-out h) (c .put-back .ensures)
 
 put-back-requires : Under tie.Need-put-back-requires
