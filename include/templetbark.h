@@ -83,7 +83,7 @@ extern "C" {
 #endif
 
 /* The version of this surface; it rises with every change that a caller can see. */
-#define TB_SURFACE 1
+#define TB_SURFACE 2
 
 /* What an answer's number says. */
 enum {
@@ -153,7 +153,8 @@ tb_answer tb_verdict(const uint32_t *table, size_t table_len, const uint32_t *pl
 tb_answer tb_play(const uint32_t *table, size_t table_len, const uint32_t *plan, size_t plan_len,
                   const uint32_t *jobs, size_t jobs_len, uint32_t *out, size_t out_len);
 
-/* Reads a sheet into a table, in whole ticks; a part of a tick counts as one.
+/* Reads a sheet into a table, in whole ticks: C rounded up, D and T rounded down, so that neither of
+ * these grows. A D or T of less than one tick is 0 in the table.
  * Refusals, in order: 9, 3, 2. The index of 3 is the number's in the table that the sheet would give.
  * Given: out[0 .. 3n) is the table, the rest of out is unchanged, value is 3n. */
 tb_answer tb_sheet(const uint8_t *text, size_t text_len, uint32_t *out, size_t out_len);

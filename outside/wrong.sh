@@ -108,7 +108,16 @@ wrong 'a job that runs less than C given C' by_hand/play.rs \
     'jobs[job][2] - rank' \
     'tasks[rank.row as usize][0] - rank'
 wrong 'finishes cut to 31 bits' by_hand/play.rs 'out[job] = now' 'out[job] = now & 0x7fff_ffff'
-wrong 'rounding down to ticks' surface/sheet.rs ' + tick - 1)' ')'
+wrong 'the run rounded down' surface/sheet.rs '(time + tick - 1)' 'time'
+wrong 'a deadline rounded up' surface/sheet.rs 'column == 0' 'column <= 1'
+wrong 'a spacing rounded up' surface/sheet.rs 'column == 0' 'column != 1'
+wrong 'a deadline of no tick raised to 1' surface/sheet.rs \
+    'else {
+        time / tick' \
+    'else {
+        (time / tick).max(2 - column as u64)'
+wrong 'a sheet'\''s 0 let through' surface/sheet.rs 'value == 0 || ' ''
+wrong 'a sheet'\''s place in its line' surface/sheet.rs 'Refusal(3, i)' 'Refusal(3, i % ROW_WIDTH)'
 wrong 'leading zeros let through' surface/sheet.rs 'longer == 0 || ' ''
 wrong 'a place of the sheet one too far' surface/sheet.rs \
     'if value == 0 {

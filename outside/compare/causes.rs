@@ -1,7 +1,7 @@
-//! What is wrong with a plan, a job or a sheet at the place where it is refused: refusals 6, 8 and 9
-//! have several causes each.
+//! What is wrong with a plan, a job or a sheet at the place where it is refused: refusals 6, 8 and 9,
+//! and 3 of a sheet, have several causes each.
 
-use common::widths::{JOB_WIDTH, MOST_ROWS, MOST_TABLE_NUMBERS, PLAN_WIDTH};
+use common::widths::{JOB_WIDTH, MOST_ROWS, MOST_TABLE_NUMBERS, PLAN_WIDTH, ROW_WIDTH};
 use second::Row;
 
 pub const OF_PLANS: [&str; 6] =
@@ -28,6 +28,14 @@ pub const OF_SHEETS: [&str; 11] = [
     "no number behind a space",
     "another byte behind a number",
     "another word",
+];
+
+pub const OF_TICKS: [&str; 5] = [
+    "a run above 1,000,000 ticks",
+    "a deadline above 1,000,000 ticks",
+    "a spacing above 1,000,000 ticks",
+    "a deadline of no tick",
+    "a spacing of no tick",
 ];
 
 fn those<const N: usize>(names: [&'static str; N], hit: [bool; N]) -> Vec<&'static str> {
@@ -81,4 +89,22 @@ pub fn of_sheet(text: &[u8], place: usize) -> &'static str {
         _ => 10,
     };
     OF_SHEETS[cause]
+}
+
+/// The tick and the times of a well-formed sheet.
+pub fn times_of_sheet(text: &[u8]) -> (u64, Vec<u64>) {
+    let text = String::from_utf8_lossy(text);
+    let mut numbers = text.split_whitespace().filter_map(|word| word.parse().ok());
+    (numbers.next().unwrap_or(1), numbers.collect())
+}
+
+/// Of the number in ticks at which a well-formed sheet is refused.
+pub fn of_ticks(text: &[u8], place: usize) -> &'static str {
+    let (tick, times) = times_of_sheet(text);
+    let cause = match (place % ROW_WIDTH, times[place] < tick) {
+        (1, true) => 3,
+        (2, true) => 4,
+        (column, _) => column,
+    };
+    OF_TICKS[cause]
 }

@@ -91,7 +91,7 @@ pub fn sheet(random: &mut Random, text: &mut Vec<u8>) {
             text.pop();
         }
         6 => {
-            let line = *b"task 1 2 3\n";
+            let line = *b"task 1 1000 1000\n";
             for _ in 0..random.below(33) {
                 text.extend(line);
             }

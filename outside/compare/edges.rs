@@ -147,12 +147,25 @@ fn job_lists(judge: &mut Judge) {
 /// Each number of a sheet at its limit and one beyond.
 fn largest_numbers_of_a_sheet(judge: &mut Judge) {
     for tick in ["1000", "1001", "9999", "10000"] {
-        judge.sheet(format!("tick {tick}\ntask 1 2 3\n").as_bytes(), ROW_WIDTH);
+        judge.sheet(format!("tick {tick}\ntask 1 1000 1000\n").as_bytes(), ROW_WIDTH);
     }
     let most = "1000000000";
     for beyond in ["1000000000", "1000000001", "9999999999", "10000000000"] {
         for [c, d, t] in [[beyond, most, most], [most, beyond, most], [most, most, beyond]] {
             judge.sheet(format!("tick 1000\ntask {c} {d} {t}\n").as_bytes(), ROW_WIDTH);
+        }
+    }
+}
+
+/// Each number of a sheet at whole ticks, the fewest and the most that a table may have, and a
+/// microsecond to either side.
+fn times_beside_whole_ticks(judge: &mut Judge) {
+    for tick in [1, 2, 3, 7, 10, 999, 1_000] {
+        let whole = [1, 2, u64::from(M)].map(|ticks| tick * ticks);
+        for us in whole.iter().flat_map(|us| [us - 1, *us, us + 1]) {
+            for [c, d, t] in [[us, tick, tick], [tick, us, tick], [tick, tick, us]] {
+                judge.sheet(format!("tick {tick}\ntask {c} {d} {t}\n").as_bytes(), ROW_WIDTH);
+            }
         }
     }
 }
@@ -202,6 +215,7 @@ pub fn all(judge: &mut Judge) {
     places(judge);
     job_lists(judge);
     largest_numbers_of_a_sheet(judge);
+    times_beside_whole_ticks(judge);
     long_texts(judge);
     vast_buffers(judge);
     longest_texts(judge);

@@ -1,7 +1,8 @@
-//! Document 01's figures, starred and not, put to the second planner and to the library.
+//! The figures of document 01, starred and not, and of request (i) of document 02, put to the second
+//! planner and to the library.
 
 use crate::judge::Judge;
-use common::widths::{rows_of, PLANNED_WIDTH, ROW_WIDTH};
+use common::widths::{rows_of, MOST_TABLE_NUMBERS, PLANNED_WIDTH};
 use second::{Answer, Level, Placed, Refusal, Row};
 
 const M: u32 = 1_000_000;
@@ -10,11 +11,11 @@ fn refused<T>(number: u32, place: u32) -> Answer<T> {
     Err(Refusal { number, place })
 }
 
-/// The judge holds the library to the second planner; this holds the second planner to document 01.
+/// The judge holds the library to the second planner; this holds the second planner to the figures.
 fn same<T: PartialEq + std::fmt::Debug>(judge: &mut Judge, what: &str, second: T, printed: T) {
-    judge.counts.add("figures of document 01");
+    judge.counts.add("figures of documents 01 and 02");
     if second != printed {
-        judge.fault(|| format!("{what}: the second planner gives {second:?}, document 01 prints {printed:?}"));
+        judge.fault(|| format!("{what}: the second planner gives {second:?}, the figure is {printed:?}"));
     }
 }
 
@@ -34,10 +35,38 @@ fn played(judge: &mut Judge, table: &[u32], plan: &[u32], jobs: &[u32], printed:
     same(judge, &format!("play {jobs:?}"), second::play(table, plan, jobs, printed.len()), Ok(printed.to_vec()));
 }
 
-fn read(judge: &mut Judge, text: &[u8], printed: Answer<&[u32]>) {
-    let room = 2 * ROW_WIDTH;
+fn read_into(judge: &mut Judge, room: usize, text: &[u8], printed: Answer<&[u32]>) {
     judge.sheet(text, room);
-    same(judge, &format!("sheet {text:?}"), second::sheet(text, room), printed.map(<[u32]>::to_vec));
+    let sheet = String::from_utf8_lossy(text);
+    same(judge, &format!("sheet {sheet:?}"), second::sheet(text, room), printed.map(<[u32]>::to_vec));
+}
+
+fn read(judge: &mut Judge, text: &[u8], printed: Answer<&[u32]>) {
+    read_into(judge, MOST_TABLE_NUMBERS, text, printed);
+}
+
+fn read_and_planned(judge: &mut Judge, text: &[u8], table: &[u32], printed: Answer<&[u32]>) {
+    read(judge, text, Ok(table));
+    planned(judge, table, printed);
+}
+
+/// Times that lie between two ticks.
+fn rounded(judge: &mut Judge) {
+    read(judge, b"tick 7\ntask 7 20 20\n", Ok(&[1, 2, 2]));
+    read(judge, b"tick 7\ntask 8 20 27\n", Ok(&[2, 2, 3]));
+    read_and_planned(judge, b"tick 7\ntask 20 20 20\n", &[3, 2, 2], refused(4, 0));
+    read(judge, b"tick 7\ntask 7 6 20\n", refused(3, 1));
+    read(judge, b"tick 7\ntask 7 20 6\n", refused(3, 2));
+    read_into(judge, 2, b"tick 7\ntask 7 6 20\n", refused(3, 1));
+    read(judge, b"tick 7\ntask 7 7 7\ntask 7 6 7\ntask 7 7 6\n", refused(3, 4));
+    read(judge, b"tick 1000\ntask 1 999 1000\n", refused(3, 1));
+    read(judge, b"tick 2\ntask 3 2000001 2000001\n", Ok(&[2, M, M]));
+    read(judge, b"tick 7\ntask 7000001 7000000 7000000\n", refused(3, 0));
+
+    let between = |last: &str| format!("tick 10\ntask 20 59 59\ntask {last}\n").into_bytes();
+    read_and_planned(judge, &between("40 79 79"), &[2, 5, 5, 4, 7, 7], Ok(&[1, 1, 3, 2, 2, 7]));
+    read_and_planned(judge, &between("40 69 79"), &[2, 5, 5, 4, 6, 7], Ok(&[1, 1, 4, 2, 3, 6]));
+    read_and_planned(judge, &between("40 70 69"), &[2, 5, 5, 4, 7, 6], refused(4, 0));
 }
 
 pub fn all(judge: &mut Judge) {
@@ -71,6 +100,7 @@ pub fn all(judge: &mut Judge) {
     read(judge, b"", refused(9, 0));
     read(judge, b"tick 5\n", refused(9, 7));
     read(judge, b"tick 10\ntask 20 50 50\ntask 40 70 70\n", Ok(&second_table));
+    rounded(judge);
 
     let page = b"plan 2\nrow 0 rank 1 length 1 response 3\nrow 1 rank 2 length 2 response 7\n";
     let of_plan = [1, 1, 3, 2, 2, 7];

@@ -2,6 +2,7 @@
 
 use crate::causes;
 use crate::counts::Counts;
+use crate::traits;
 use common::bridge::{bytes, numbers, Bridge, Call, Operation, Reply};
 use common::random::Random;
 use common::widths::{jobs_of, rows_of, PLANNED_WIDTH};
@@ -133,7 +134,10 @@ impl Judge {
         let slices = vec![text.to_vec(), self.output(4 * room)];
         let expected = second::sheet(text, room).map(|out| (out.len() as u64, bytes(&out)));
         self.count_cause(Operation::Sheet, &expected, 9, |place| vec![causes::of_sheet(text, place)]);
-        Some(numbers(&self.hold(Call { operation: Operation::Sheet, slices, number: 0 }, true, expected)?.1))
+        self.count_cause(Operation::Sheet, &expected, 3, |place| vec![causes::of_ticks(text, place)]);
+        let given = self.hold(Call { operation: Operation::Sheet, slices, number: 0 }, true, expected)?.1;
+        traits::of_sheet(&mut self.counts, text);
+        Some(numbers(&given))
     }
 
     pub fn print(&mut self, planned: &[u32], room: usize) -> Option<Vec<u8>> {

@@ -33,17 +33,21 @@ const REFUSALS: [(Operation, &[u32]); 7] = [
 ];
 
 /// The refusals that have several causes.
-const CAUSES: [(Operation, u32, &[&str]); 5] = [
+const CAUSES: [(Operation, u32, &[&str]); 6] = [
     (Operation::Times, 6, &causes::OF_PLANS),
     (Operation::Verdict, 6, &causes::OF_PLANS),
     (Operation::Play, 6, &causes::OF_PLANS),
     (Operation::Play, 8, &causes::OF_JOBS),
     (Operation::Sheet, 9, &causes::OF_SHEETS),
+    (Operation::Sheet, 3, &causes::OF_TICKS),
 ];
 
-const NOTABLE: [&str; 22] = [
+const NOTABLE: [&str; 25] = [
     "Verdict yes",
     "Verdict no",
+    "sheet: a run between two ticks",
+    "sheet: a deadline between two ticks",
+    "sheet: a spacing between two ticks",
     "table: D above T",
     "table: C equal to T",
     "table: utilisation exactly 1, with a busy period",
@@ -87,7 +91,7 @@ fn main() -> std::io::Result<()> {
         part(&mut judge);
         println!("{:>9} calls in {:>6.1} s  {name}", judge.calls - before, began.elapsed().as_secs_f64());
     };
-    timed("figures of document 01", &mut figures::all);
+    timed("figures of documents 01 and 02", &mut figures::all);
     timed("edges", &mut edges::all);
     timed("every byte of a sheet", &mut cases::every_byte_of_a_sheet);
     timed("tables and plans", &mut |judge| cases::tables_and_plans(judge, &mut random, 16_000));

@@ -129,9 +129,9 @@ pub fn jobs(random: &mut Random, table: &[u32], most: usize, last_release: u64) 
     jobs.concat()
 }
 
-/// A well-formed sheet, its numbers at all sizes.
-pub fn sheet(random: &mut Random) -> Vec<u8> {
-    let number = |random: &mut Random, most: u64| match random.below(6) {
+/// A number from 1 to `most`, at all sizes.
+fn number(random: &mut Random, most: u64) -> u64 {
+    match random.below(6) {
         0 => most,
         1 => 1,
         2 => {
@@ -142,11 +142,31 @@ pub fn sheet(random: &mut Random) -> Vec<u8> {
             let limit = random.pick(&[9, 99, 5_000, 1_000_000, most]).min(most);
             random.from_to(1, limit)
         }
+    }
+}
+
+/// A time of a task: whole ticks, a microsecond beside them, or anywhere between two of them; at
+/// times any number at all, so less than a tick, or more ticks than a table may have.
+fn time(random: &mut Random, tick: u64) -> u64 {
+    const MOST_TIME: u64 = 1_000_000_000;
+    let whole = tick * number(random, MOST);
+    let us = match random.below(20) {
+        0 => number(random, MOST_TIME),
+        1..=5 => whole,
+        6..=8 => whole - u64::from(whole > tick),
+        9..=11 => whole + 1,
+        _ => whole + random.from_to(0, tick - 1),
     };
+    us.min(MOST_TIME)
+}
+
+/// A well-formed sheet, its numbers at all sizes.
+pub fn sheet(random: &mut Random) -> Vec<u8> {
     let rows = if random.once_in(10) { MOST_ROWS } else { 1 + random.below(4) };
-    let mut text = format!("tick {}\n", number(random, 1_000));
+    let tick = number(random, 1_000);
+    let mut text = format!("tick {tick}\n");
     for _ in 0..rows {
-        let [c, d, t] = [0; ROW_WIDTH].map(|_| number(random, 1_000_000_000));
+        let [c, d, t] = [0; ROW_WIDTH].map(|_| time(random, tick));
         text += &format!("task {c} {d} {t}\n");
     }
     text.into_bytes()

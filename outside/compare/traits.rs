@@ -1,5 +1,6 @@
-//! Counts what is notable about a table or a plan: the cases that a shortcut would get wrong.
+//! Counts what is notable about a sheet, a table or a plan: the cases that a shortcut would get wrong.
 
+use crate::causes::times_of_sheet;
 use crate::counts::Counts;
 use common::widths::{rows_of, MOST_ROWS, PLANNED_WIDTH, ROW_WIDTH};
 use second::{busy_period, Level, Placed, Row};
@@ -8,6 +9,16 @@ use second::{busy_period, Level, Placed, Row};
 fn exactly_full(rows: &[Row]) -> bool {
     let product = rows.iter().try_fold(1u128, |product, row| product.checked_mul(row.t.into()));
     product.is_some_and(|all| rows.iter().map(|row| all / u128::from(row.t) * u128::from(row.c)).sum::<u128>() == all)
+}
+
+/// Of a well-formed sheet.
+pub fn of_sheet(counts: &mut Counts, text: &[u8]) {
+    let (tick, times) = times_of_sheet(text);
+    for (column, name) in ["run", "deadline", "spacing"].into_iter().enumerate() {
+        if times.chunks(ROW_WIDTH).any(|row| row[column] % tick > 0) {
+            counts.add(format!("sheet: a {name} between two ticks"));
+        }
+    }
 }
 
 pub fn of_table(counts: &mut Counts, table: &[u32]) {

@@ -1,4 +1,4 @@
-//! The second planner: document 01's operations written from its text alone, to be believed at
+//! The second planner: the operations written from documents 01 and 02 alone, to be believed at
 //! sight and not to be fast.
 //!
 //! It searches where the product iterates: candidates are taken stretch by stretch between

@@ -13,9 +13,12 @@ impl Sheet {
         format!("tick {}\n", self.tick) + &lines.collect::<String>()
     }
 
+    /// C in the fewest ticks that are not below it, D and T in the most that are not above.
     pub fn in_ticks(&self) -> Vec<u64> {
-        let least = |us: u64| (us / self.tick..).find(|ticks| ticks * self.tick >= us).unwrap_or(0);
-        self.rows.iter().flatten().map(|us| least(*us)).collect()
+        let near = |us: u64| (us / self.tick).saturating_sub(1)..=us / self.tick + 1;
+        let fewest = |us: u64| near(us).find(|ticks| ticks * self.tick >= us).unwrap_or(0);
+        let most = |us: u64| near(us).rev().find(|ticks| ticks * self.tick <= us).unwrap_or(0);
+        self.rows.iter().flat_map(|[c, d, t]| [fewest(*c), most(*d), most(*t)]).collect()
     }
 }
 

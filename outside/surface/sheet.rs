@@ -46,6 +46,15 @@ impl Cursor<'_> {
     }
 }
 
+/// The whole ticks of a time, by its column: a run is rounded up, a deadline or a spacing down.
+fn in_ticks(column: usize, time: u64, tick: u64) -> u64 {
+    if column == 0 {
+        (time + tick - 1) / tick
+    } else {
+        time / tick
+    }
+}
+
 pub fn table(text: &[u8]) -> Result<([u32; MOST_NUMBERS], usize), Refusal> {
     let mut cursor = Cursor { text, at: 0 };
     cursor.word(b"tick ")?;
@@ -58,9 +67,9 @@ pub fn table(text: &[u8]) -> Result<([u32; MOST_NUMBERS], usize), Refusal> {
             return Err(Refusal(9, cursor.at));
         }
         cursor.word(b"task")?;
-        for value in ticks[ROW_WIDTH * rows..][..ROW_WIDTH].iter_mut() {
+        for (column, value) in ticks[ROW_WIDTH * rows..][..ROW_WIDTH].iter_mut().enumerate() {
             cursor.word(b" ")?;
-            *value = (cursor.number(MOST_TIME)? + tick - 1) / tick;
+            *value = in_ticks(column, cursor.number(MOST_TIME)?, tick);
         }
         cursor.word(b"\n")?;
         rows += 1;
@@ -68,7 +77,7 @@ pub fn table(text: &[u8]) -> Result<([u32; MOST_NUMBERS], usize), Refusal> {
     let length = ROW_WIDTH * rows;
     let mut table = [0; MOST_NUMBERS];
     for (i, (number, value)) in table.iter_mut().zip(ticks).take(length).enumerate() {
-        if value > MOST.into() {
+        if value == 0 || value > MOST.into() {
             return Err(Refusal(3, i));
         }
         *number = value as u32;

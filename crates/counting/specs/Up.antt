@@ -1,4 +1,4 @@
--- Rounding up: what document 01 means by "ceil(t/T)" and "rounded up to whole ticks".
+-- Rounding up: what document 01 means by "ceil(t/T)", and request (i) of document 02 by "C stays rounded up".
 use Prim.Native.Nat.{ℕ, _+_, _-_, _/_}
 
 -- t / d rounded up, for d of at least 1: the least m with t ≤ m · d, as the laws `le-up` and `up-le` of

@@ -1,4 +1,4 @@
-// Rounding up, the one place where the planner divides and rounds; and the larger of two numbers.
+// Rounding up, the one place where the planner does it; and the larger of two numbers.
 ghost use mathlib.Core.Path.{_≡_};
 ghost use Prim.Native.Nat.{_+_, max, _<_, _≤_};
 ghost use Rattle.counting.specs.Up.{up};

@@ -1,11 +1,13 @@
 -- From the bytes of a sheet to the board, proved.
-use Prim.Native.Nat.{ℕ, _+_, _*_, _<_}
+use Prim.Native.Nat.{ℕ, _+_, _*_, _/_, _≤_, _<_}
 use mathlib.Core.Path.{_≡_, refl, ap, sym, _∙_, subst}
 use mathlib.Core.Logic.{⊎-elim}
 use mathlib.Core.List.{List, _++_}
 use native.Mathlib.Omega.{arith}
+use native.Mathlib.Nat.{mul-le-mul-right}
 use lib.ListN.{length, getD, take}
 use lib.Seq.{getD-take, take-at, length-take-le}
+use Rattle.counting.specs.Up.{up}
 use Rattle.counting.proofs.Cases.{by-eq}
 use Rattle.tables.specs.Table.{Table, tableOf, row-width}
 use Rattle.tables.specs.Plan.{Plan, WellFormed, planOf}
@@ -26,12 +28,16 @@ use Rattle.choice.specs.Answers.{PlanAnswer}
 use Rattle.choice.proofs.Complete.{chosen-well-formed, chosen-passes, stopped-no-plan}
 use Rattle.sheet.specs.Sheet.{ticksOf}
 use Rattle.sheet.specs.Answers.{SheetGiven, ticks-checks}
+use Rattle.sheet.proofs.Fronts.{length-ticks, sheet-once}
+use Rattle.sheet.proofs.Ticks.{place-within, row-at}
+use Rattle.sheet.proofs.Rounding.{neither-grows}
 use Rattle.printing.specs.Printed.{planLine, planText, refusedLine}
 use Rattle.printing.proofs.Inverse.{text-determines}
 use Rattle.program.specs.Reply.{blank, PagePlanned, Page}
 use Rattle.program.proofs.Pages.{plan-rows}
 use Rattle.demands.specs.Demand2.{Accepted}
-use Rattle.demands.specs.Board.{OfItsTable, RowHolds, PrintedPlanHolds, PrintedFiveHolds}
+use Rattle.demands.specs.Board.{OfItsTable, RowHolds, PrintedPlanHolds, PrintedWithinTheSheet}
+use Rattle.demands.specs.Board.{PrintedFiveHolds}
 use Rattle.demands.proofs.Gave.{PlanGave, plan-gave}
 use Rattle.demands.proofs.Demand3.{no-job-takes-longer, some-job-takes-exactly}
 
@@ -166,6 +172,19 @@ printed-plan-holds text page planned p rows e =
       holds = plan-holds (ticksOf (t .tick) (t .tasks)) page planned (t .holds) rows e;
     })
     (λ nonzero. absurd (no-plan-refused planned _ _ (sym e ∙ p .refused nonzero)))
+
+pub printed-within-the-sheet : PrintedWithinTheSheet
+printed-within-the-sheet text page planned p rows e tick tasks sheet i t at =
+    let h = printed-plan-holds text page planned p rows e in
+    let same = sheet-once text (h .tick) tick (h .tasks) tasks (h .sheet) sheet in
+    let xs = ticksOf tick tasks in
+    let row = (rw (same .0, same .1) at (h .holds)) .1 in
+    let l : i < tableOf xs .n = omega (arith, length-ticks tick tasks, place-within tasks i t at) in
+    let ticks : responseIn planned i ≤ t .D / tick =
+    omega (arith, row i l .in-time, row-at tick tasks i t at 1 (omega arith)) in
+    let low = sheet .formed .tick-within .low in
+    let kept = neither-grows tick t (up (t .C) tick) (t .D / tick) (t .T / tick) low refl in
+    omega (arith, mul-le-mul-right tick ticks, kept .1 .not-above)
 
 -- a refusal's number is that of one of its checks, and the page tells it
 refused-number : (page : List ℕ) (r : Result) (place : ℕ) → (r .number ≡ 0 → ⊥) →

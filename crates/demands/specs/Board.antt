@@ -2,8 +2,9 @@
 -- kernel. Nothing is assumed but that the program's promise allows the page.
 use Prim.Native.Nat.{ℕ, _*_, _≤_, _<_}
 use mathlib.Core.Path.{_≡_}
+use mathlib.Core.Option.{some}
 use mathlib.Core.List.{List}
-use lib.ListN.{length}
+use lib.ListN.{length, getElem?}
 use Rattle.tables.specs.Table.{Table, tableOf}
 use Rattle.tables.specs.Plan.{planOf}
 use Rattle.tables.specs.Planned.{planned-width, plannedOf, responseIn}
@@ -36,6 +37,14 @@ PrintedPlanHolds =
     (text page planned : List ℕ) → Page text page → Rows planned-width planned → page ≡ planText planned →
     OfItsTable text (λ xs.
     (length planned ≡ planned-width * tableOf xs .n) × ((i : ℕ) → i < tableOf xs .n → RowHolds (tableOf xs) planned i))
+
+-- request (i) of document 02, "Neither may grow": where the page is the text of a planned table, the response of each
+-- row, in microseconds, is at most the deadline that the line of its task says
+abbrev pub PrintedWithinTheSheet : Type 0
+PrintedWithinTheSheet =
+    (text page planned : List ℕ) → Page text page → Rows planned-width planned → page ≡ planText planned →
+    (tick : ℕ) (tasks : List Task) → Sheet text tick tasks →
+    (i : ℕ) (t : Task) → getElem? tasks i ≡ some t → responseIn planned i * tick ≤ t .D
 
 -- where the page is the line `refused 5`, the text is a sheet, and no ranks with any lengths pass for its table
 abbrev pub PrintedFiveHolds : Type 0

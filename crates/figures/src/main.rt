@@ -1,4 +1,5 @@
-// The figures of document 01, run: each line as it stands there, with the answer that the library gives.
+// The figures of document 01 and of request (i) of document 02, run: each as it stands there, with the answer that the
+// library gives.
 ghost use Prim.Native.Nat.{_≤_};
 use tables::JOB_WIDTH;
 use tables::MOST_ROWS;
@@ -29,6 +30,20 @@ fn main() {
     read(b"tick 5\n");
     played(&[2, 5, 5, 4, 7, 7], &[1, 1, 2, 2], &[]);
     printed(b"tick 10\ntask 20 50 50\ntask 40 70 70\n");
+    rounded();
+}
+
+// Times that lie between two ticks.
+fn rounded() {
+    read(b"tick 7\ntask 7 20 20\n");
+    read(b"tick 7\ntask 8 20 27\n");
+    read(b"tick 7\ntask 20 20 20\n");
+    planned(&[3, 2, 2]);
+    read(b"tick 7\ntask 7 6 20\n");
+    read(b"tick 7\ntask 7 20 6\n");
+    printed(b"tick 10\ntask 20 59 59\ntask 40 79 79\n");
+    printed(b"tick 10\ntask 20 59 59\ntask 40 69 79\n");
+    printed(b"tick 10\ntask 20 59 59\ntask 40 70 69\n");
 }
 
 // A task table to its planned table.
@@ -77,6 +92,7 @@ fn played(table: &[u32], plan: &[u32], jobs: &[u32]) {
 fn read(text: &[u8]) {
     let mut out: [u32; ROW_WIDTH * MOST_ROWS] = [0; ROW_WIDTH * MOST_ROWS];
     let said = templetbark::tb_sheet(text, &mut out);
+    io::write_all(1, text);
     io::write_all(1, b"sheet of ");
     io::print_decimal(1, text.len() as u64);
     io::write_all(1, b" bytes: ");
@@ -92,6 +108,11 @@ fn printed(text: &[u8]) {
     let read = templetbark::tb_sheet(text, &mut table);
     let mut plan: [u32; PLANNED_WIDTH * MOST_ROWS] = [0; PLANNED_WIDTH * MOST_ROWS];
     let said = templetbark::tb_plan(front(&table, read), &mut plan);
+    io::write_all(1, text);
+    if refused(said) {
+        io::write_all(1, b"\n");
+        return;
+    }
     let mut buf = io::buffer();
     let shown = templetbark::print(front(&plan, said), &mut buf);
     io::write_all(1, shown);

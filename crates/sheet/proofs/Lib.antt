@@ -2,4 +2,6 @@
 pub mod Lines
 pub mod Fronts
 pub mod Ticks
+pub mod Rounding
 pub mod Answers
+pub mod Figures

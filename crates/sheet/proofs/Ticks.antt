@@ -1,21 +1,26 @@
--- Laws of a row in ticks: it fits its numbers, and how it is put into the table.
-use Prim.Native.Nat.{ℕ, _+_, _*_, _-_, _≤_}
-use mathlib.Core.Path.{_≡_, refl}
+-- Laws of a row in ticks: it fits its numbers, how it is put into the table, and where it stands there.
+use Prim.Native.Nat.{ℕ, zero, suc, _+_, _*_, _-_, _/_, _≤_, _<_}
+use mathlib.Core.Path.{_≡_, refl, ap, _∙_}
+use mathlib.Core.Option.{some, Option·some-injective, Option·none-ne-some}
 use mathlib.Core.List.{List, [], _∷_, _++_, append-assoc}
 use native.Mathlib.Omega.{arith}
-use native.Mathlib.Nat.{mul-le-mul-left}
-use lib.ListN.{length, drop, set}
-use lib.Seq.{take-at, drop-at, drop-drop}
+use native.Mathlib.Nat.{zero-add, mul-le-mul-left, div-le-self}
+use lib.ListN.{length, getD, drop, set, getElem?, List·getD-append}
+use lib.Seq.{take-at, drop-at, drop-drop, getD-append-add}
 use borrow.Rule.Slice.PartMut.{putMid}
 use Rattle.counting.specs.Up.{up}
 use Rattle.counting.proofs.Up.{up-le}
 use Rattle.tables.specs.Table.{row-width}
-use Rattle.sheet.specs.Sheet.{Task, rowOf, ticksOf}
+use Rattle.sheet.specs.Sheet.{Task, longest-time, rowOf, ticksOf}
 use Rattle.sheet.proofs.Fronts.{ticks-more, length-ticks}
 
 -- ticks are no more than microseconds
 pub up-small : (x d : ℕ) → 1 ≤ d → up x d ≤ x
 up-small x d h = up-le x x h (omega (arith, mul-le-mul-left x h))
+
+-- a time divided, whatever by, has 32 bits
+pub quotient-fits : (x d : ℕ) → x ≤ longest-time → x / d < 4294967296
+quotient-fits x d h = omega (arith, div-le-self x d)
 
 -- three stores fill a list of three
 pub filled : (l : List ℕ) (a b c : ℕ) → length l ≡ row-width → set (set (set l 0 a) 1 b) 2 c ≡ a ∷ b ∷ c ∷ []
@@ -38,3 +43,21 @@ row-more tick n ts t before table row e f g =
     let front = take-at (ticksOf tick ts) rest (row-width * n) long in
     let behind = drop-at (ticksOf tick ts) rest (row-width * n) long in
     rw (k, f, g, front, behind, drop-drop 3 (row-width * n) before, m, ticks-more tick ts t) (simp append-assoc)
+
+-- where a task stands: its place is below their number, and its numbers are row i of the table
+pub place-within : (ts : List Task) (i : ℕ) (t : Task) → getElem? ts i ≡ some t → i < length ts
+place-within [] i t e = absurd (Option·none-ne-some t e)
+place-within (u ∷ ts) zero t e = omega arith
+place-within (u ∷ ts) (suc i) t e = omega (arith, place-within ts i t e)
+
+pub row-at : (tick : ℕ) (ts : List Task) (i : ℕ) (t : Task) → getElem? ts i ≡ some t → (j : ℕ) → j < row-width →
+    getD (ticksOf tick ts) (row-width * i + j) 0 ≡ getD (rowOf tick t) j 0
+unfolding ticksOf
+row-at tick [] i t e j l = absurd (Option·none-ne-some t e)
+row-at tick (u ∷ ts) zero t e j l =
+    rw (zero-add j)
+    (List·getD-append (rowOf tick u) (ticksOf tick ts) 0 j l
+    ∙ ap (λ (v : Task). getD (rowOf tick v) j 0) (Option·some-injective u t e))
+row-at tick (u ∷ ts) (suc i) t e j l =
+    let k : row-width * suc i + j ≡ row-width + (row-width * i + j) = omega arith in
+    rw k (getD-append-add (rowOf tick u) (ticksOf tick ts) (row-width * i + j) 0 ∙ row-at tick ts i t e j l)

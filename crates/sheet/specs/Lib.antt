@@ -1,4 +1,6 @@
 -- The definitions of the crate `sheet`.
 pub mod Sheet
 pub mod Answers
+pub mod Rounding
+pub mod Figures
 pub mod inside

@@ -1,5 +1,5 @@
--- Text sheets: document 01, "Sheet and printed plan".
-use Prim.Native.Nat.{ℕ, _≤_}
+-- Text sheets: document 01, "Sheet and printed plan"; how times become ticks: request (i) of document 02.
+use Prim.Native.Nat.{ℕ, _/_, _≤_}
 use mathlib.Core.Path.{_≡_}
 use mathlib.Core.List.{List, [], _∷_, _++_}
 use lib.ListN.{length, take}
@@ -73,10 +73,10 @@ pub record LongestPrefix (text : List ℕ) (place : ℕ) : Type 0 where
   pub shared : Shared (take place text)
   pub longest : (m : ℕ) → m ≤ length text → Shared (take m text) → m ≤ place
 
--- "rounded up to whole ticks": the row of a task, each of its three times divided by the tick and rounded up; and
--- the table of all
+-- request (i) of document 02, "C stays rounded up": the row of a task in whole ticks, its worst run divided by the tick
+-- and rounded up, its deadline and its least spacing rounded down; and the table of all
 abbrev pub rowOf : ℕ → Task → List ℕ
-rowOf tick t = up (t .C) tick ∷ up (t .D) tick ∷ up (t .T) tick ∷ []
+rowOf tick t = up (t .C) tick ∷ t .D / tick ∷ t .T / tick ∷ []
 
 unfoldable pub ticksOf : ℕ → List Task → List ℕ
 ticksOf tick [] = []

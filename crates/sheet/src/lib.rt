@@ -92,14 +92,14 @@ fn read_times(text: &[u8], from: Cursor) -> LineRead
     }
 }
 
-// The row of a task in ticks, into its own part of the table.
+// The row of a task in ticks, into its own part of the table: a run may not shrink, nor a deadline or a spacing grow.
 fn put_ticks(row: &mut [u32], times: Times, tick: u64)
     requires { ⌜ (length (now row) ≡ row-width) × TaskWithin (taskOf times) × Between longest-tick tick ⌝ }
     ensures { λ _. ⌜ now (row .exit) ≡ rowOf tick (taskOf times) ⌝ }
 {
     row[0] = counting::round_up(times.c, tick) as u32;
-    row[1] = counting::round_up(times.d, tick) as u32;
-    row[2] = counting::round_up(times.t, tick) as u32;
+    row[1] = (times.d / tick) as u32;
+    row[2] = (times.t / tick) as u32;
 }
 
 // The task lines behind the first line, their rows into the table.
