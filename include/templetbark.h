@@ -154,7 +154,7 @@ tb_answer tb_play(const uint32_t *table, size_t table_len, const uint32_t *plan,
                   const uint32_t *jobs, size_t jobs_len, uint32_t *out, size_t out_len);
 
 /* Reads a sheet into a table, in whole ticks: C rounded up, D and T rounded down, so that neither of
- * these grows. A D or T of less than one tick is 0 in the table.
+ * these grows. A D or T of less than one tick is 0 in the table, and so refused with 3.
  * Refusals, in order: 9, 3, 2. The index of 3 is the number's in the table that the sheet would give.
  * Given: out[0 .. 3n) is the table, the rest of out is unchanged, value is 3n. */
 tb_answer tb_sheet(const uint8_t *text, size_t text_len, uint32_t *out, size_t out_len);

@@ -1,8 +1,8 @@
 -- The figures of request (i), proved: each is an answer that the promise allows, and any two of these are equal.
 use Prim.Native.Nat.{ℕ, _≤_, _<_}
-use mathlib.Core.Path.{_≡_, refl}
+use mathlib.Core.Path.{_≡_, refl, sym, subst}
 use mathlib.Core.Bool.{Bool, true, _&&_}
-use mathlib.Core.Logic.{inl, inr}
+use mathlib.Core.Logic.{_↔_, inl, inr}
 use mathlib.Core.List.{List, [], _∷_}
 use native.Mathlib.Omega.{arith}
 use borrow.Author.Tests.{leb-true}
@@ -12,10 +12,12 @@ use Rattle.counting.specs.Up.{up}
 use Rattle.counting.proofs.Cases.{by-le, and-left, and-right}
 use Rattle.counting.proofs.Search.{all, all-at}
 use Rattle.tables.specs.Table.{Within, most, most-rows}
+use Rattle.tables.specs.Refusal.{Result}
 use Rattle.tables.specs.Checks.{range}
 use Rattle.tables.proofs.Answered.{_past_}
 use Rattle.tables.proofs.Clear.{range-of-within}
 use Rattle.sheet.specs.Sheet.{Task, TasksWithin, sheetText, Sheet, ticksOf}
+use Rattle.sheet.specs.Answers.{SheetAnswer}
 use Rattle.sheet.specs.Figures.{task, OnlyGives, OnlyRefuses, RoundingFigures}
 use Rattle.sheet.proofs.Answers.{sheet-unique}
 
@@ -42,10 +44,18 @@ module _ (ts : List Task) (h : (1 ≤ length ts) × (length ts ≤ most-rows) ×
         bytes = refl;
       }
 
+  -- an answer that the promise allows is the only one
+  only : (out : List ℕ) (r s : Result) → SheetAnswer (sheetText 7 ts) out s →
+      SheetAnswer (sheetText 7 ts) out r ↔ (r ≡ s)
+  only out r s right = (
+    λ a. sheet-unique (sheetText 7 ts) out r s a right,
+    λ e. subst (SheetAnswer (sheetText 7 ts) out) (sym e) right,
+  )
+
   gives : all (in-range (ticksOf 7 ts)) (length (ticksOf 7 ts)) ≡ true → OnlyGives ts (ticksOf 7 ts)
-  gives inside out r room a =
+  gives inside out r room =
       let ticks = ticksOf 7 ts in
-      sheet-unique (sheetText 7 ts) out r _ a (inr (
+      only out r _ (inr (
         7,
         ts,
         own,
@@ -56,7 +66,7 @@ module _ (ts : List Task) (h : (1 ≤ length ts) × (length ts ≤ most-rows) ×
 
   refuses : (place : ℕ) → place < length (ticksOf 7 ts) → getD (ticksOf 7 ts) place 0 ≡ 0 →
       all (in-range (ticksOf 7 ts)) place ≡ true → OnlyRefuses ts place
-  refuses place l none before out r a =
+  refuses place l none before out r =
       let ticks = ticksOf 7 ts in
       let first : range ticks .hits place =
       record {
@@ -64,8 +74,7 @@ module _ (ts : List Task) (h : (1 ≤ length ts) × (length ts ≤ most-rows) ×
         holds = (l, λ w. omega (arith, none, w .low));
         least = λ u low e. by-le place u (λ g. g) (λ g. absurd (e .1 (within ticks place before u g)));
       } in
-      sheet-unique (sheetText 7 ts) out r _ a
-      (inr (7, ts, own, inl (record { number = refl; place = first; value = refl; unwritten = refl })))
+      only out r _ (inr (7, ts, own, inl (record { number = refl; place = first; value = refl; unwritten = refl })))
 
 pub rounding-figures : RoundingFigures
 unfolding up ticksOf in-range all

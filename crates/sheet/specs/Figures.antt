@@ -2,26 +2,30 @@
 -- each of these sheets.
 use Prim.Native.Nat.{ℕ, _≤_}
 use mathlib.Core.Path.{_≡_}
+use mathlib.Core.Logic.{_↔_}
 use mathlib.Core.List.{List, [], _∷_, _++_}
 use lib.ListN.{length, drop}
 use Rattle.tables.specs.Refusal.{Result}
 use Rattle.sheet.specs.Sheet.{Task, sheetText}
 use Rattle.sheet.specs.Answers.{SheetAnswer}
 
+-- the task of a line `task c d t`
 abbrev pub task : ℕ → ℕ → ℕ → Task
 task c d t = record { C = c; D = d; T = t }
 
--- what the promise allows for the sheet of these tasks and any output with room for them is this table, and no other
+-- for the sheet of these tasks and any output with room for them the promise allows the answer that gives this table,
+-- and no other
 abbrev pub OnlyGives : List Task → List ℕ → Type 0
 OnlyGives ts ticks =
-    (out : List ℕ) (r : Result) → length ticks ≤ length out → SheetAnswer (sheetText 7 ts) out r →
-    r ≡ record { number = 0; place = 0; value = length ticks; out = ticks ++ drop (length ticks) out }
+    (out : List ℕ) (r : Result) → length ticks ≤ length out →
+    SheetAnswer (sheetText 7 ts) out r
+    ↔ (r ≡ record { number = 0; place = 0; value = length ticks; out = ticks ++ drop (length ticks) out })
 
--- what it allows for them and any output, too short or not, is refusal 3 at this place, and no other
+-- for their sheet and any output, too short or not, it allows refusal 3 at this place, and no other answer
 abbrev pub OnlyRefuses : List Task → ℕ → Type 0
 OnlyRefuses ts place =
-    (out : List ℕ) (r : Result) → SheetAnswer (sheetText 7 ts) out r →
-    r ≡ record { number = 3; place = place; value = 0; out = out }
+    (out : List ℕ) (r : Result) →
+    SheetAnswer (sheetText 7 ts) out r ↔ (r ≡ record { number = 3; place = place; value = 0; out = out })
 
 pub record RoundingFigures : Type 0 where
   -- "which is 21": a deadline or a spacing of 20 is not 3 ticks
