@@ -16,8 +16,8 @@ static int refused(const char *operation, tb_answer answer)
 
 int main(void)
 {
-    /* C, D, T in ticks. */
-    const uint32_t table[TABLE] = {2, 5, 5, 4, 7, 7};
+    /* C, D, T in ticks, then start and length of the middle region: the second task has one. */
+    const uint32_t table[TABLE] = {2, 5, 5, 0, 0, 4, 7, 7, 0, 2};
     uint32_t planned[PLANNED];
     if (refused("plan", tb_plan(table, TABLE, planned, PLANNED)))
         return 1;

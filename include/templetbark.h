@@ -8,7 +8,7 @@
  * The library keeps no state, allocates nothing, and may be called from several threads at once. It
  * calls two functions of the C library, memcpy and memset, and nothing else outside itself. Every call
  * ends. 4,096 bytes of stack are enough for each, what memcpy and memset take in glibc included;
- * tb_times takes the most, 3,248 bytes of its own, the red zone among them. No bound on a call's time is
+ * tb_verdict takes the most, 3,728 bytes of its own, the red zone among them. No bound on a call's time is
  * proved. The longest that a search for slow tables found is 0.03 seconds of processor time, of tb_plan
  * on a server's Xeon for a table of 32 rows; there may be slower ones.
  *
@@ -18,13 +18,17 @@
  *
  * The slices
  *
- *   table    a task table: for each row C, D and T in ticks. A job of the row runs for at most C, is
- *            due D after its release, and the row's next release is T later or more. D may be less
- *            than T, the same, or more. The table has n rows, 1 to 32, and every number is from 1 to
- *            1,000,000.
+ *   table    a task table: for each row C, D, T, S and M in ticks. A job of the row runs for at most
+ *            C, is due D after its release, and the row's next release is T later or more. D may be
+ *            less than T, the same, or more. C, D and T are from 1 to 1,000,000. S and M are the start
+ *            and the length of the row's middle region: a job executes S ticks before it, and once it
+ *            has executed a tick of it, it is not preempted before the region's end, when it has
+ *            executed S + M. The end is below C. A row without such a region has 0 and 0; in any
+ *            other M is 1 or more. The table has n rows, 1 to 32.
  *   plan     for each row of the table, in the same order, a rank and a length. The ranks are the
  *            numbers from 1 to n in any order, and rank 1 goes first; the length is that of the final
- *            region, which is not preempted, at least 1 and at most the row's C.
+ *            region, the last ticks of C, in which a job is not preempted either. It is at least 1 and
+ *            at most C - (S + M).
  *   planned  what tb_plan writes: rank, length and response of each row, in the table's order. The
  *            response is the longest that a job of the row takes from release to finish.
  *   jobs     a job list: for each job its row, its release and its run. The row is an index into the
@@ -32,10 +36,11 @@
  *            row's C. There may be no job, and there are at most 4,096. None is released before a job
  *            that is listed ahead of it, nor less than T after another of its row.
  *   text     a sheet in ASCII. It begins with a line `tick N`: a tick takes N microseconds, 1 to
- *            1,000. Each further line, 1 to 32 of them, is `task C D T`, three numbers of
- *            microseconds from 1 to 1,000,000,000. Single spaces part the words, no number begins
- *            with 0, and each line has a line feed at its end, the last one too. The longest sheet
- *            has 1,226 bytes.
+ *            1,000. Each further line, 1 to 32 of them, is `task C D T`, or `task C D T S M` for a
+ *            task with a middle region, in microseconds. Each number is from 1 to 1,000,000,000, and
+ *            S may also be 0. Single spaces part the words, no number begins with 0 but an S of 0,
+ *            and each line has a line feed at its end, the last one too. The longest sheet has 1,930
+ *            bytes.
  *
  *
  * The refusals
@@ -45,13 +50,17 @@
  *
  *   9  TB_NOT_A_SHEET. The text is no sheet.
  *      Place: how many of its first bytes are also the first bytes of some sheet.
- *   1  TB_NOT_ROWS. The numbers make no whole rows of three, no row at all, or more than 32.
+ *   1  TB_NOT_ROWS. The numbers make no whole rows, of five in a table and of three in a planned
+ *      table, no row at all, or more than 32.
  *      Place: 0.
- *   3  TB_OUT_OF_RANGE. A number of the table is 0 or above 1,000,000.
+ *   3  TB_OUT_OF_RANGE. A number of the table is not what it may be: a C, D or T is 0 or above
+ *      1,000,000; an S is above 1,000,000, or above 0 where M is 0; an M is above 0 and S + M is C or
+ *      more.
  *      Place: its index, the least if there are several.
  *   6  TB_NOT_A_PLAN. The plan is not one for this table.
  *      Place: TB_WRONG_SIZE, 32, if it has more or fewer than 2n numbers. Otherwise the first row whose
- *      rank is not from 1 to n or is that of a row before it, or whose length is not from 1 to C.
+ *      rank is not from 1 to n or is that of a row before it, or whose length is not from 1 to
+ *      C - (S + M).
  *   7  TB_NOT_JOBS. The numbers make no whole jobs of three, or more than 4,096.
  *      Place: 0.
  *   8  TB_BAD_JOB. A job is not what is asked of one above, by its own numbers or beside a job ahead
@@ -83,7 +92,7 @@ extern "C" {
 #endif
 
 /* The version of this surface; it rises with every change that a caller can see. */
-#define TB_SURFACE 2
+#define TB_SURFACE 3
 
 /* What an answer's number says. */
 enum {
@@ -103,7 +112,7 @@ enum {
 #define TB_WRONG_SIZE 32
 
 /* How many numbers each has. */
-#define TB_ROW_WIDTH 3             /* a row of a table: C, D, T */
+#define TB_ROW_WIDTH 5             /* a row of a table: C, D, T, S, M */
 #define TB_PLAN_WIDTH 2            /* a row of a plan: rank, length */
 #define TB_PLANNED_WIDTH 3         /* a row of a planned table: rank, length, response */
 #define TB_TIMES_WIDTH 1           /* a row of what tb_times writes: response */
@@ -118,7 +127,7 @@ enum {
 #define TB_MOST_TIMES_NUMBERS (TB_MOST_ROWS * TB_TIMES_WIDTH)
 #define TB_MOST_JOBS 4096
 #define TB_MOST_JOB_NUMBERS (TB_MOST_JOBS * TB_JOB_WIDTH)
-#define TB_MOST_SHEET_BYTES 1226
+#define TB_MOST_SHEET_BYTES 1930
 #define TB_MOST_PRINTED_BYTES 1950
 
 /* An answer, given or refused. */
@@ -154,9 +163,11 @@ tb_answer tb_play(const uint32_t *table, size_t table_len, const uint32_t *plan,
                   const uint32_t *jobs, size_t jobs_len, uint32_t *out, size_t out_len);
 
 /* Reads a sheet into a table, in whole ticks: C rounded up, D and T rounded down, so that neither of
- * these grows. A D or T of less than one tick is 0 in the table, and so refused with 3.
+ * these grows. A D or T of less than one tick is 0 in the table, and so refused with 3. S is rounded
+ * down and the region's end, S + M, up, so that all ticks that the region touches are in it; a line
+ * without a region gives 0 and 0.
  * Refusals, in order: 9, 3, 2. The index of 3 is the number's in the table that the sheet would give.
- * Given: out[0 .. 3n) is the table, the rest of out is unchanged, value is 3n. */
+ * Given: out[0 .. 5n) is the table, the rest of out is unchanged, value is 5n. */
 tb_answer tb_sheet(const uint8_t *text, size_t text_len, uint32_t *out, size_t out_len);
 
 /* Writes a planned table as text: `plan n`, then `row i rank r length q response R` for each row i

@@ -49,10 +49,44 @@ wrong 'judges one job fewer' surface/trial.rs 'release >= self.active' 'release 
 wrong 'the ceiling in place of floor plus one' surface/trial.rs \
     '(self.released)(start)' \
     '(self.released)(start.max(1) - 1)'
-wrong 'times with blocking at the full length' by_hand/response.rs 'blocking.max(length - 1)' 'blocking.max(length)'
-wrong 'plan with blocking at the full length' by_hand/search.rs 'blocking.max(length - 1)' 'blocking.max(length)'
+wrong 'times with blocking at the full length' by_hand/response.rs 'length)) - 1)' 'length)))'
+wrong 'plan with blocking at the full length' by_hand/search.rs 'blocking.max(longer - 1)' 'blocking.max(longer)'
+wrong 'times with the middle region left out of blocking' by_hand/response.rs 'longer(tasks[*row], length)' 'length'
+wrong 'plan with the middle region left out of blocking' by_hand/search.rs \
+    'blocking.max(longer - 1)' \
+    'blocking.max(length - 1)'
+wrong 'times with the final region left out beside a middle one' surface/rows.rs \
+    'length.max(region)' \
+    'if region > 0 { region } else { length }'
+wrong 'times with both regions added' surface/rows.rs 'length.max(region)' 'length + region'
+wrong 'plan with both regions added' by_hand/search.rs 'length.max(region)' 'length + region'
+wrong 'times with a row'\''s own middle region in its blocking' by_hand/response.rs \
+    'first = blocking + runs(level)' \
+    'first = blocking.max(u64::from(longer(tasks[*row], 1)) - 1) + runs(level)'
 wrong 'a response one tick too large' surface/trial.rs 'Some(largest)' 'Some(largest + 1)'
-wrong 'a tie to the later row' by_hand/search.rs '|b| b.length - 1' '|b| b.length'
+wrong 'a tie to the later row' by_hand/search.rs '|b| b.longer - 1' '|b| b.longer'
+wrong 'a rank by the final length' by_hand/search.rs \
+    'b.longer - 1);
+        if less == 0 {
+            break;
+        }
+        if region > less {
+            continue;
+        }' \
+    'b.length - 1);
+        if less == 0 {
+            break;
+        }'
+wrong 'no row tried after a length of 1' by_hand/search.rs 'if less == 0' 'if best.is_some_and(|b| b.length == 1)'
+wrong 'a row left out whose middle region could win' by_hand/search.rs 'region > less' 'region >= less'
+wrong 'a length as long as the middle region' by_hand/search.rs \
+    'trial.shortest(less.min(cap(own).into()))' \
+    'trial.shortest(less.min(cap(own).into())).and_then(|(length, _)| {
+            let longest = length.max(region.min(cap(own).into()));
+            Some((longest, trial.response(longest, own[1].into())?))
+        })'
+wrong 'lengths up to C tried' by_hand/search.rs 'cap(own).into()' 'own[0].into()'
+wrong 'lengths up to C let through' surface/checks.rs 'cap(*task)' 'task[0]'
 wrong 'a length longer than the shortest' surface/trial.rs 'found.0 - fails > 1' 'found.0 - fails > 2'
 wrong 'each row in another row'\''s part' surface/operations.rs \
     'zip(&plan[..tasks.len()]) {
@@ -77,8 +111,26 @@ wrong 'times checks the output before the plan' surface/operations.rs \
     checks::room(out.len(), tasks.len())?;' \
     'checks::room(out.len(), tasks.len())?;
     let mut plan = checks::plan(tasks, plan)?;'
-wrong 'a number of 1,000,000 refused' surface/checks.rs '*v > MOST' '*v >= MOST'
-wrong 'the place of a number one too far' surface/checks.rs 'Refusal(3, i)' 'Refusal(3, i + 1)'
+wrong 'a number of 1,000,000 refused' surface/checks.rs 'v > MOST' 'v >= MOST'
+wrong 'the place of a number one too far' surface/checks.rs 'row + column' 'row + column + 1'
+wrong 'a start above 1,000,000 let through' surface/checks.rs 'start > MOST || ' ''
+wrong 'a start without a length let through' surface/checks.rs ' || (start > 0 && region == 0)' ''
+wrong 'a start without a length at the place of the length' surface/checks.rs \
+    'start_at_fault, region_at_fault]' \
+    'start > MOST, region_at_fault || start_at_fault]'
+wrong 'a region up to C let through' surface/checks.rs '>= u64::from(c)' '> u64::from(c)'
+wrong 'a region'\''s end that wraps at 2^32' surface/checks.rs \
+    'u64::from(start) + u64::from(region) >= u64::from(c)' \
+    'start.wrapping_add(region) >= c'
+wrong 'faults of regions after all others' surface/checks.rs \
+    'for (row, task) in' \
+    'for (row, task) in tasks.iter().enumerate() {
+        let [c, d, t, ..]: Task = *task;
+        if let Some(column) = column_at_fault([c, d, t, 0, 0]) {
+            return Err(Refusal(3, ROW_WIDTH * row + column));
+        }
+    }
+    for (row, task) in'
 wrong 'place 31 for a plan of the wrong size' surface/checks.rs 'Refusal(6, MOST_ROWS)' 'Refusal(6, MOST_ROWS - 1)'
 wrong 'a rank twice let through' surface/checks.rs ' && seen >> rank & 1 == 0' ''
 wrong '33 rows let through to a trap' surface/checks.rs 'rows.len() > MOST_ROWS' 'rows.len() > MOST_ROWS + 1'
@@ -100,36 +152,57 @@ wrong 'a read behind a slice' surface/operations.rs \
     'fit(lent(planned, planned_len), buf_len)' \
     'fit(lent(planned, planned_len), buf_len.min(planned.add(planned_len).read_volatile() as usize))'
 wrong 'verdict with less in place of at most' surface/operations.rs '<= *d' '< *d'
-wrong 'a job in its region preempted' by_hand/play.rs ' || rank.executed + until > rank.preemptible' ''
-wrong 'a region one tick too long' by_hand/play.rs '> rank.preemptible' '>= rank.preemptible'
+wrong 'a job in its final region preempted' by_hand/play.rs ' || rank.executed + until > rank.preemptible' ''
+wrong 'a final region one tick too long' by_hand/play.rs '> rank.preemptible' '>= rank.preemptible'
+wrong 'a job in its middle region preempted' by_hand/play.rs 'region.holds(rank.executed + next)' 'false'
+wrong 'a middle region that locks from its start on' by_hand/play.rs '> self.start' '>= self.start'
+wrong 'a middle region that locks at its end' by_hand/play.rs 'end: start + region' 'end: start + region + 1'
+wrong 'a job held in its middle region run to its own end' by_hand/play.rs \
+    'region.end - rank.executed' \
+    'remaining'
 wrong 'a lower rank before a higher' by_hand/play.rs '.find(' '.rfind('
 wrong 'a finish one tick early' by_hand/play.rs 'out[job] = now' 'out[job] = now - 1'
 wrong 'a job that runs less than C given C' by_hand/play.rs \
     'jobs[job][2] - rank' \
     'tasks[rank.row as usize][0] - rank'
 wrong 'finishes cut to 31 bits' by_hand/play.rs 'out[job] = now' 'out[job] = now & 0x7fff_ffff'
-wrong 'the run rounded down' surface/sheet.rs '(time + tick - 1)' 'time'
-wrong 'a deadline rounded up' surface/sheet.rs 'column == 0' 'column <= 1'
-wrong 'a spacing rounded up' surface/sheet.rs 'column == 0' 'column != 1'
+wrong 'the run rounded down' surface/sheet.rs 'c = up(' 'c = down('
+wrong 'a deadline rounded up' surface/sheet.rs 'd = down(' 'd = up('
+wrong 'a spacing rounded up' surface/sheet.rs 't = down(' 't = up('
 wrong 'a deadline of no tick raised to 1' surface/sheet.rs \
-    'else {
-        time / tick' \
-    'else {
-        (time / tick).max(2 - column as u64)'
-wrong 'a sheet'\''s 0 let through' surface/sheet.rs 'value == 0 || ' ''
-wrong 'a sheet'\''s place in its line' surface/sheet.rs 'Refusal(3, i)' 'Refusal(3, i % ROW_WIDTH)'
+    'd = down(self.number(MOST_TIME)?)' \
+    'd = down(self.number(MOST_TIME)?).max(1)'
+wrong 'a region'\''s start rounded up' surface/sheet.rs '(down(from), ' '(up(from), '
+wrong 'a region'\''s end rounded down' surface/sheet.rs 'up(from + length)' 'down(from + length)'
+wrong 'a region'\''s length rounded by itself' surface/sheet.rs 'up(from + length)' 'down(from) + up(length)'
+wrong 'a sheet'\''s 0 let through' surface/sheet.rs \
+    'checks::table(&table[..length])?' \
+    'checks::table(&table[..length]).map_or_else(|r| if table[r.1] == 0 { Ok(()) } else { Err(r) }, |_| Ok(()))?'
+wrong 'a sheet'\''s place in its line' surface/sheet.rs \
+    'checks::table(&table[..length])?' \
+    'checks::table(&table[..length]).map_err(|r| Refusal(r.0, r.1 % ROW_WIDTH))?'
 wrong 'leading zeros let through' surface/sheet.rs 'longer == 0 || ' ''
+wrong 'a 0 behind a start of 0 let through' surface/sheet.rs \
+    'if self.here() == Some(b'\''0'\'')' \
+    'while self.here() == Some(b'\''0'\'') && self.text.get(self.at + 1) == Some(&b'\''0'\'') { self.at += 1; }
+        if self.here() == Some(b'\''0'\'')'
+wrong 'a start of 0 refused on a sheet' surface/sheet.rs 'from = self.number_or_0' 'from = self.number'
+wrong 'a length of 0 let through on a sheet' surface/sheet.rs 'length = self.number' 'length = self.number_or_0'
+wrong 'a start without a length let through on a sheet' surface/sheet.rs \
+    'self.word(b" ")?;
+            let length = self.number(MOST_TIME)?;' \
+    'let length = if self.word(b" ").is_ok() { self.number(MOST_TIME)? } else { 1 };'
 wrong 'a place of the sheet one too far' surface/sheet.rs \
     'if value == 0 {
             return Err(Refusal(9, self.at' \
     'if value == 0 {
             return Err(Refusal(9, self.at + 1'
 wrong 'the last line feed not asked for' surface/sheet.rs \
-    'cursor.word(b"\n")?;
-        rows += 1' \
-    'if cursor.at < text.len() { cursor.word(b"\n")?; }
-        rows += 1'
-wrong 'a sheet of 32 lines refused' surface/sheet.rs 'rows == MOST_ROWS' 'rows == MOST_ROWS - 1'
+    'self.word(b"\n")?;
+        Ok([' \
+    'if self.at < self.text.len() { self.word(b"\n")?; }
+        Ok(['
+wrong 'a sheet of 32 lines refused' surface/sheet.rs 'length == MOST_NUMBERS' 'length == MOST_NUMBERS - ROW_WIDTH'
 wrong 'a row'\''s printed numbers exchanged' surface/page.rs \
     '[rank, length, response]' \
     '[rank, response, length]'

@@ -14,7 +14,8 @@ fn main() -> std::io::Result<()> {
     let [run, folder] = &words[..] else { return Err(std::io::Error::other("bench 'RUN WORDS' FOLDER")) };
     let mut versions = Versions::start(run, folder)?;
     report::heading(run.contains("qemu"));
-    report::realistic_plans(&mut versions)?;
+    report::realistic_plans(&mut versions, false)?;
+    report::realistic_plans(&mut versions, true)?;
     report::hard_cases(&mut versions)?;
     report::growth_of_play(&mut versions)
 }

@@ -42,17 +42,17 @@ fn table_head() {
     println!("|---|---|---|---|---|---|");
 }
 
-/// Plans of realistic tables, and then how their cost grows.
-pub fn realistic_plans(versions: &mut Versions) -> io::Result<()> {
+/// Plans of realistic tables, without middle regions or with them, and then how their cost grows.
+pub fn realistic_plans(versions: &mut Versions, regions: bool) -> io::Result<()> {
+    let kind = if regions { "UUniFast tables with middle regions" } else { "UUniFast tables" };
     table_head();
     let mut grown = String::new();
     for utilisation in UTILISATIONS {
         grown += &format!("| {utilisation} |");
         for rows in ROWS {
-            let calls = families::realistic(rows, utilisation);
+            let calls = families::realistic(rows, utilisation, regions);
             let times = measure(versions, &calls, true)?;
-            let name =
-                format!("plan: 20 UUniFast tables ({} planned), {rows} rows, utilisation {utilisation}", times.given);
+            let name = format!("plan: 20 {kind} ({} planned), {rows} rows, utilisation {utilisation}", times.given);
             line(&name, &times);
             grown += &format!(" {} |", microseconds(times.library / calls.len() as f64));
         }
@@ -60,7 +60,7 @@ pub fn realistic_plans(versions: &mut Versions) -> io::Result<()> {
     }
     let columns = ROWS.map(|rows| format!(" {rows} rows |")).concat();
     println!(
-        "\nPlan, µs a table, the library:\n\n| utilisation |{columns}\n|---|{}\n{grown}",
+        "\nPlan of {kind}, µs a table, the library:\n\n| utilisation |{columns}\n|---|{}\n{grown}",
         "---|".repeat(ROWS.len())
     );
     Ok(())
@@ -71,9 +71,11 @@ pub fn hard_cases(versions: &mut Versions) -> io::Result<()> {
     let runs = [
         ("play: 4,096 jobs, spaced", families::spaced(MOST)),
         ("play: 4,096 jobs, preempting each other", families::preempted(MOST)),
+        ("play: 4,096 jobs, held in middle regions", families::held(MOST)),
         ("play: 4,096 jobs, a flood pending at once", families::flood(MOST)),
     ];
-    for (name, call) in families::hard().into_iter().chain(families::long_active_periods()).chain(runs) {
+    let plans = families::hard().into_iter().chain(families::hard_with_regions());
+    for (name, call) in plans.chain(families::long_active_periods()).chain(runs) {
         line(name, &measure(versions, &[call], true)?);
     }
     line("play: 4,096 jobs of 1,000,000 ticks", &measure(versions, &[families::longest_run()], false)?);
@@ -85,10 +87,11 @@ pub fn hard_cases(versions: &mut Versions) -> io::Result<()> {
 }
 
 pub fn growth_of_play(versions: &mut Versions) -> io::Result<()> {
-    println!("Play, µs a run, the library:\n\n| jobs | spaced | preempting | flood |\n|---|---|---|---|");
+    println!("Play, µs a run, the library:\n\n| jobs | spaced | preempting | held | flood |\n|---|---|---|---|---|");
     for jobs in JOBS {
         print!("| {jobs} |");
-        for call in [families::spaced(jobs), families::preempted(jobs), families::flood(jobs)] {
+        let runs = [families::spaced(jobs), families::preempted(jobs), families::held(jobs), families::flood(jobs)];
+        for call in runs {
             print!(" {} |", microseconds(measure(versions, &[call], false)?.library));
         }
         println!();

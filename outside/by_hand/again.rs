@@ -31,7 +31,7 @@ impl Again {
     /// longer than the busy period, and a row of that spacing or more is released in it once.
     pub fn keep(&mut self, tasks: &[Task], busy: u64) {
         self.many = 0;
-        for (row, [_, _, t]) in tasks.iter().enumerate() {
+        for (row, [_, _, t, ..]) in tasks.iter().enumerate() {
             if u64::from(*t) < busy {
                 self.level[self.many] = self.level[row];
                 self.stands(row, self.many);

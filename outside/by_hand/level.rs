@@ -12,7 +12,7 @@ pub struct Asks {
 }
 
 impl Asks {
-    pub fn of([c, _, t]: Task) -> Asks {
+    pub fn of([c, _, t, ..]: Task) -> Asks {
         Asks { inverse: (1 << SHIFT) / u64::from(t) + 1, run: c.into() }
     }
 }

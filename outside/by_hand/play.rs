@@ -12,6 +12,19 @@ struct Rank {
     executed: u32,
 }
 
+/// The middle region of a row. Kept in its rank it would make the ranks longer to look through.
+#[derive(Clone, Copy, Default)]
+struct Region {
+    start: u32,
+    end: u32,
+}
+
+impl Region {
+    fn holds(&self, executed: u32) -> bool {
+        executed > self.start && executed < self.end
+    }
+}
+
 /// The place of the row's first job from `from` on.
 fn seek(jobs: &[Job], row: u32, from: usize) -> u32 {
     let mut rest = &jobs[from..];
@@ -26,10 +39,11 @@ fn seek(jobs: &[Job], row: u32, from: usize) -> u32 {
 
 pub fn finishes(tasks: &[Task], plan: &Plan, jobs: &[Job], out: &mut [u32]) {
     let mut ranks = [Rank::default(); MOST_ROWS];
-    for (i, ([c, ..], p)) in tasks.iter().zip(plan).enumerate() {
-        let row = i as u32;
-        ranks[(p.rank - 1) as usize % MOST_ROWS] =
-            Rank { row, preemptible: c - p.length, job: seek(jobs, row, 0), executed: 0 };
+    let mut regions = [Region::default(); MOST_ROWS];
+    for (i, (&[c, _, _, start, region], p)) in tasks.iter().zip(plan).enumerate() {
+        let (row, at) = (i as u32, (p.rank - 1) as usize % MOST_ROWS);
+        ranks[at] = Rank { row, preemptible: c - p.length, job: seek(jobs, row, 0), executed: 0 };
+        regions[at] = Region { start, end: start + region };
     }
     let ranks = &mut ranks[..tasks.len()];
     let (mut now, mut coming, mut left) = (0, 0, jobs.len());
@@ -37,13 +51,15 @@ pub fn finishes(tasks: &[Task], plan: &Plan, jobs: &[Job], out: &mut [u32]) {
         while coming < jobs.len() && jobs[coming][1] <= now {
             coming += 1;
         }
-        let Some(rank) = ranks.iter_mut().find(|rank| rank.job < coming as u32) else {
+        let waits = ranks.iter_mut().zip(&regions).find(|(rank, _)| rank.job < coming as u32);
+        let Some((rank, region)) = waits else {
             now = jobs[coming][1];
             continue;
         };
         let job = rank.job as usize;
         let remaining = jobs[job][2] - rank.executed;
-        let until = if coming == jobs.len() { remaining } else { jobs[coming][1] - now };
+        let next = if coming == jobs.len() { remaining } else { jobs[coming][1] - now };
+        let until = if region.holds(rank.executed + next) { region.end - rank.executed } else { next };
         if remaining <= until || rank.executed + until > rank.preemptible {
             now += remaining;
             out[job] = now;

@@ -3,7 +3,7 @@
 use crate::again::Again;
 use crate::level::{released, runs};
 use crate::surface::answer::Refusal;
-use crate::surface::rows::{Plan, Planned, Task, MOST_ROWS};
+use crate::surface::rows::{cap, Plan, Planned, Task, MOST_ROWS};
 use crate::trial::{least_idle, Trial};
 
 /// The row found best so far at a rank, by its place among the rows without one.
@@ -11,6 +11,7 @@ use crate::trial::{least_idle, Trial};
 struct Best {
     at: usize,
     length: u64,
+    longer: u64,
     response: u64,
 }
 
@@ -20,14 +21,18 @@ fn best_of_rank(tasks: &[Task], unplaced: &[usize], again: &mut Again, first: u6
     let mut best: Option<Best> = None;
     for (at, row) in unplaced.iter().enumerate() {
         let own = tasks[*row];
-        let cap = best.map_or(u64::MAX, |b| b.length - 1).min(own[0].into());
-        if cap == 0 {
+        let [.., region] = own.map(u64::from);
+        let less = best.map_or(u64::MAX, |b| b.longer - 1);
+        if less == 0 {
             break;
+        }
+        if region > less {
+            continue;
         }
         let above = again.without(*row);
         let trial = Trial { own, first, active, released: move |s| released(above, s) };
-        if let Some((length, response)) = trial.shortest(cap) {
-            best = Some(Best { at, length, response });
+        if let Some((length, response)) = trial.shortest(less.min(cap(own).into())) {
+            best = Some(Best { at, length, longer: length.max(region), response });
         }
     }
     best
@@ -43,10 +48,10 @@ pub fn plan(tasks: &[Task]) -> Result<Plan, Refusal> {
     let mut blocking = 0;
     for rank in (1..=tasks.len()).rev() {
         let best = best_of_rank(tasks, &unplaced[..rank], &mut again, blocking + runs);
-        let Best { at, length, response } = best.ok_or(Refusal(5, 0))?;
+        let Best { at, length, longer, response } = best.ok_or(Refusal(5, 0))?;
         let row = unplaced[at];
         plan[row] = Planned { rank: rank as u32, length: length as u32, response: response as u32 };
-        blocking = blocking.max(length - 1);
+        blocking = blocking.max(longer - 1);
         runs -= u64::from(tasks[row][0]);
         again.remove(row);
         unplaced.copy_within(at + 1..rank, at);

@@ -1,6 +1,5 @@
-//! The kernel's run from decision to decision, at most two a job, with a state of 32 places.
+//! The kernel's run from decision to decision, at most three a job, with a state of 32 places.
 
-use crate::places::Rows;
 use crate::surface::rows::{Job, Plan, Task, MOST_ROWS};
 
 /// A row's earliest unfinished job, by its place in the list, and the ticks it has executed.
@@ -8,6 +7,18 @@ use crate::surface::rows::{Job, Plan, Task, MOST_ROWS};
 struct Head {
     job: usize,
     executed: u64,
+}
+
+/// How far a job runs on that has executed so much, where it is in one of its regions.
+fn held([c, _, _, start, region]: Task, length: u32, executed: u64, run: u64) -> Option<u64> {
+    let end = u64::from(start + region);
+    if executed > u64::from(c - length) {
+        Some(run)
+    } else if executed > start.into() && executed < end {
+        Some(end)
+    } else {
+        None
+    }
 }
 
 fn next_of_row(jobs: &[Job], row: usize, from: usize) -> usize {
@@ -19,14 +30,13 @@ fn next_of_row(jobs: &[Job], row: usize, from: usize) -> usize {
 }
 
 pub fn finishes(tasks: &[Task], plan: &Plan, jobs: &[Job], out: &mut [u32]) {
-    let rows = Rows::of(tasks);
     let release = |job: usize| u64::from(jobs[job][1]);
     let mut row_of = [0; MOST_ROWS];
-    for (i, p) in plan[..rows.n].iter().enumerate() {
+    for (i, p) in plan[..tasks.len()].iter().enumerate() {
         row_of[(p.rank as usize - 1) % MOST_ROWS] = i % MOST_ROWS;
     }
     let mut heads = [Head::default(); MOST_ROWS];
-    for (head, row) in heads.iter_mut().zip(row_of).take(rows.n) {
+    for (head, row) in heads.iter_mut().zip(row_of).take(tasks.len()) {
         head.job = next_of_row(jobs, row, 0);
     }
     let (mut now, mut coming, mut left) = (0, 0, jobs.len());
@@ -35,27 +45,28 @@ pub fn finishes(tasks: &[Task], plan: &Plan, jobs: &[Job], out: &mut [u32]) {
         while coming < jobs.len() && release(coming) <= now {
             coming += 1;
         }
-        let locked =
-            running.filter(|&at| heads[at].executed > rows.row[row_of[at]].c - u64::from(plan[row_of[at]].length));
-        let picked = locked.or_else(|| heads[..rows.n].iter().position(|head| head.job < coming));
-        let Some(at) = picked else {
+        let locked = running.and_then(|at| {
+            let (Head { job, executed }, row) = (heads[at], row_of[at]);
+            Some((at, held(tasks[row], plan[row].length, executed, jobs[job][2].into())?))
+        });
+        let highest = || heads[..tasks.len()].iter().position(|head| head.job < coming);
+        let Some(at) = locked.map(|(at, _)| at).or_else(highest) else {
             now = release(coming);
             continue;
         };
         let at = at % MOST_ROWS;
         let head = &mut heads[at];
-        let remaining = u64::from(jobs[head.job][2]) - head.executed;
-        let until = if locked.is_some() || coming == jobs.len() { remaining } else { release(coming) - now };
-        if remaining <= until {
-            now += remaining;
+        let run = u64::from(jobs[head.job][2]);
+        let next = if coming == jobs.len() { run } else { head.executed + release(coming) - now };
+        let reached = locked.map_or(next, |(_, to)| to).min(run);
+        now += reached - head.executed;
+        head.executed = reached;
+        running = Some(at);
+        if reached == run {
             out[head.job] = now as u32;
             *head = Head { job: next_of_row(jobs, row_of[at], head.job + 1), executed: 0 };
             running = None;
             left -= 1;
-        } else {
-            now += until;
-            head.executed += until;
-            running = Some(at);
         }
     }
 }

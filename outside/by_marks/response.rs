@@ -2,7 +2,7 @@
 
 use crate::marks::{all, released, runs};
 use crate::places::Rows;
-use crate::surface::rows::{Plan, Task, HORIZON, MOST_ROWS};
+use crate::surface::rows::{longer, Plan, Task, HORIZON, MOST_ROWS};
 use crate::trial::{least_idle, Trial};
 
 /// Nothing if there is no busy period.
@@ -20,9 +20,9 @@ pub fn responses(tasks: &[Task], plan: &mut Plan) -> Option<()> {
         let active = least_idle(first, |s| released(rows, level, s))?;
         level &= !(1 << row);
         let trial = Trial { own: tasks[*row], first, active, released: move |s| released(rows, level, s) };
-        let length = u64::from(plan[*row].length);
-        plan[*row].response = trial.response(length, HORIZON)? as u32;
-        blocking = blocking.max(length - 1);
+        let length = plan[*row].length;
+        plan[*row].response = trial.response(length.into(), HORIZON)? as u32;
+        blocking = blocking.max(u64::from(longer(tasks[*row], length)) - 1);
     }
     Some(())
 }

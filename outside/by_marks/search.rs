@@ -3,7 +3,7 @@
 use crate::marks::{all, released, runs};
 use crate::places::Rows;
 use crate::surface::answer::Refusal;
-use crate::surface::rows::{Plan, Planned, Task, MOST_ROWS};
+use crate::surface::rows::{cap, Plan, Planned, Task, MOST_ROWS};
 use crate::trial::{least_idle, Trial};
 
 /// The row found best so far at a rank.
@@ -11,6 +11,7 @@ use crate::trial::{least_idle, Trial};
 struct Best {
     row: usize,
     length: u64,
+    longer: u64,
     response: u64,
 }
 
@@ -23,14 +24,18 @@ fn best_of_rank(tasks: &[Task], rows: &Rows, unplaced: u32, blocking: u64) -> Op
         let row = to_try.trailing_zeros() as usize % MOST_ROWS;
         to_try &= to_try - 1;
         let own = tasks[row];
-        let cap = best.map_or(u64::MAX, |b| b.length - 1).min(own[0].into());
-        if cap == 0 {
+        let [.., region] = own.map(u64::from);
+        let less = best.map_or(u64::MAX, |b| b.longer - 1);
+        if less == 0 {
             break;
+        }
+        if region > less {
+            continue;
         }
         let above = unplaced & !(1 << row);
         let trial = Trial { own, first, active, released: move |s| released(rows, above, s) };
-        if let Some((length, response)) = trial.shortest(cap) {
-            best = Some(Best { row, length, response });
+        if let Some((length, response)) = trial.shortest(less.min(cap(own).into())) {
+            best = Some(Best { row, length, longer: length.max(region), response });
         }
     }
     best
@@ -43,10 +48,11 @@ pub fn plan(tasks: &[Task]) -> Result<Plan, Refusal> {
     let mut plan = [Planned::default(); MOST_ROWS];
     let mut blocking = 0;
     while unplaced != 0 {
-        let Best { row, length, response } = best_of_rank(tasks, rows, unplaced, blocking).ok_or(Refusal(5, 0))?;
+        let best = best_of_rank(tasks, rows, unplaced, blocking);
+        let Best { row, length, longer, response } = best.ok_or(Refusal(5, 0))?;
         let rank = unplaced.count_ones();
         plan[row % MOST_ROWS] = Planned { rank, length: length as u32, response: response as u32 };
-        blocking = blocking.max(length - 1);
+        blocking = blocking.max(longer - 1);
         unplaced &= !(1 << row);
     }
     Ok(plan)

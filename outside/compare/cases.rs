@@ -41,7 +41,7 @@ pub fn tables_and_plans(judge: &mut Judge, random: &mut Random, cases: usize) {
             let planned = judge.plan(&table, space);
             traits::of_table(&mut judge.counts, &table);
             if let Some(planned) = planned {
-                traits::of_planned(&mut judge.counts, &planned);
+                traits::of_planned(&mut judge.counts, &table, &planned);
                 plan = planned.chunks(PLANNED_WIDTH).flat_map(|p| [p[0], p[1]]).collect();
                 traits::of_plan(&mut judge.counts, &table, &plan);
                 if judge.times(&table, &plan, rows) != Some(planned.chunks(PLANNED_WIDTH).map(|p| p[2]).collect()) {
@@ -83,7 +83,9 @@ pub fn runs(judge: &mut Judge, random: &mut Random, cases: usize) {
             damage::table(random, &mut table);
         }
         let space = room(random, jobs_of(&jobs));
-        judge.play(&table, &plan, &jobs, space);
+        if let Some(finishes) = judge.play(&table, &plan, &jobs, space) {
+            traits::of_run(&mut judge.counts, &table, &plan, &jobs, &finishes);
+        }
     }
 }
 
@@ -101,7 +103,7 @@ pub fn sheets(judge: &mut Judge, random: &mut Random, cases: usize) {
 
 /// Each byte of a sheet replaced by each of the 256, each place cut, each byte left out.
 pub fn every_byte_of_a_sheet(judge: &mut Judge) {
-    let sheet = *b"tick 10\ntask 20 50 50\ntask 40 70 70\n";
+    let sheet = *b"tick 10\ntask 20 50 50\ntask 40 70 70 0 15\n";
     let room = 2 * ROW_WIDTH;
     for at in 0..=sheet.len() {
         judge.sheet(&sheet[..at], room);

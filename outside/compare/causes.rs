@@ -1,11 +1,34 @@
-//! What is wrong with a plan, a job or a sheet at the place where it is refused: refusals 6, 8 and 9,
-//! and 3 of a sheet, have several causes each.
+//! What is wrong with a table, a plan, a job or a sheet at the place where it is refused: refusals 3, 6,
+//! 8 and 9 have several causes each.
 
 use common::widths::{JOB_WIDTH, MOST_ROWS, MOST_TABLE_NUMBERS, PLAN_WIDTH, ROW_WIDTH};
 use second::Row;
 
-pub const OF_PLANS: [&str; 6] =
-    ["wrong size", "rank 0", "rank above n", "rank of a row before", "length 0", "length above C"];
+/// A region's numbers in a row and on a line.
+const START: usize = 3;
+const LENGTH: usize = 4;
+
+pub const OF_TABLES: [&str; 9] = [
+    "a run of 0",
+    "a run above 1,000,000",
+    "a deadline of 0",
+    "a deadline above 1,000,000",
+    "a spacing of 0",
+    "a spacing above 1,000,000",
+    "a start above 1,000,000",
+    "a start without a length",
+    "a region that ends later than C less 1",
+];
+
+pub const OF_PLANS: [&str; 7] = [
+    "wrong size",
+    "rank 0",
+    "rank above n",
+    "rank of a row before",
+    "length 0",
+    "length above C",
+    "length up to C, into the middle region",
+];
 
 pub const OF_JOBS: [&str; 6] = [
     "row of no task",
@@ -16,7 +39,7 @@ pub const OF_JOBS: [&str; 6] = [
     "too close to a job of its row",
 ];
 
-pub const OF_SHEETS: [&str; 11] = [
+pub const OF_SHEETS: [&str; 17] = [
     "nothing",
     "no task line",
     "no line feed at the end",
@@ -28,18 +51,38 @@ pub const OF_SHEETS: [&str; 11] = [
     "no number behind a space",
     "another byte behind a number",
     "another word",
+    "a length that begins with 0",
+    "a digit behind a start of 0",
+    "a start above 1,000,000,000",
+    "a length above 1,000,000,000",
+    "a start with no length",
+    "a number behind the length",
 ];
 
-pub const OF_TICKS: [&str; 5] = [
+pub const OF_TICKS: [&str; 7] = [
     "a run above 1,000,000 ticks",
     "a deadline above 1,000,000 ticks",
     "a spacing above 1,000,000 ticks",
+    "a start above 1,000,000 ticks",
+    "a region that ends too late",
     "a deadline of no tick",
     "a spacing of no tick",
 ];
 
 fn those<const N: usize>(names: [&'static str; N], hit: [bool; N]) -> Vec<&'static str> {
     names.into_iter().zip(hit).filter_map(|(name, hit)| hit.then_some(name)).collect()
+}
+
+/// Of the number at which the table is refused.
+pub fn of_table(table: &[u32], place: usize) -> Vec<&'static str> {
+    let Row { c, d, t, start, region } = Row::of_table(table)[place / ROW_WIDTH];
+    let column = place % ROW_WIDTH;
+    let outside = |at: usize, v: u64| [column == at && v == 0, column == at && v > second::MOST];
+    let ([no_c, much_c], [no_d, much_d], [no_t, much_t]) = (outside(0, c), outside(1, d), outside(2, t));
+    let late_start = column == START && start > second::MOST;
+    let no_length = column == START && start > 0 && region == 0;
+    let late_end = column == LENGTH && start + region > c - 1;
+    those(OF_TABLES, [no_c, much_c, no_d, much_d, no_t, much_t, late_start, no_length, late_end])
 }
 
 /// Of the row at which the plan is refused.
@@ -50,7 +93,9 @@ pub fn of_plan(table: &[u32], plan: &[u32], row: usize) -> Vec<&'static str> {
     }
     let (rank, length) = (plan[PLAN_WIDTH * row], u64::from(plan[PLAN_WIDTH * row + 1]));
     let taken = (0..row).any(|before| plan[PLAN_WIDTH * before] == rank);
-    those(OF_PLANS, [false, rank == 0, rank > rows.len() as u32, taken, length == 0, length > rows[row].c])
+    let above_c = length > rows[row].c;
+    let into_middle = !above_c && length > rows[row].cap();
+    those(OF_PLANS, [false, rank == 0, rank > rows.len() as u32, taken, length == 0, above_c, into_middle])
 }
 
 /// Of the job at which the list is refused.
@@ -75,14 +120,22 @@ pub fn of_sheet(text: &[u8], place: usize) -> &'static str {
     let (before, rest) = text.split_at(place);
     let lines = before.iter().filter(|byte| **byte == b'\n').count();
     let last = before.last().copied().unwrap_or(b'\n');
+    let line = before.rsplit(|byte| *byte == b'\n').next().unwrap_or(before);
+    let column = line.iter().filter(|byte| **byte == b' ').count().wrapping_sub(1);
     let cause = match (last, rest.first()) {
         _ if text.is_empty() => 0,
         (b'\n', None) => 1,
         (b'0'..=b'9', None) if is_whole(&[text, b"\n"].concat()) => 2,
         (_, None) => 3,
         (b'\n', Some(_)) if lines == 1 + MOST_ROWS => 4,
+        (b' ', Some(b'0')) if column == LENGTH => 11,
         (b' ', Some(b'0')) => 5,
+        (b'0', Some(b'0'..=b'9')) if line.ends_with(b" 0") => 12,
         (b'0'..=b'9', Some(b'0'..=b'9')) if lines == 0 => 6,
+        (b'0'..=b'9', Some(b'0'..=b'9')) if column == START => 13,
+        (b'0'..=b'9', Some(b'0'..=b'9')) if column == LENGTH => 14,
+        (b'0'..=b'9', Some(b'\n')) if column == START => 15,
+        (b'0'..=b'9', Some(b' ')) if column == LENGTH => 16,
         (b'0'..=b'9', Some(b'0'..=b'9')) => 7,
         (b' ', Some(_)) => 8,
         (b'0'..=b'9', Some(_)) => 9,
@@ -91,20 +144,28 @@ pub fn of_sheet(text: &[u8], place: usize) -> &'static str {
     OF_SHEETS[cause]
 }
 
-/// The tick and the times of a well-formed sheet.
-pub fn times_of_sheet(text: &[u8]) -> (u64, Vec<u64>) {
+/// The tick and the lines' times of a well-formed sheet, 0 and 0 where a line has no region.
+pub fn times_of_sheet(text: &[u8]) -> (u64, Vec<[u64; ROW_WIDTH]>) {
     let text = String::from_utf8_lossy(text);
-    let mut numbers = text.split_whitespace().filter_map(|word| word.parse().ok());
-    (numbers.next().unwrap_or(1), numbers.collect())
+    let numbers = |line: &str| {
+        let mut times = [0; ROW_WIDTH];
+        for (time, word) in times.iter_mut().zip(line.split(' ').skip(1)) {
+            *time = word.parse().unwrap_or(0);
+        }
+        times
+    };
+    let mut lines = text.lines().map(numbers);
+    (lines.next().map_or(1, |[tick, ..]| tick), lines.collect())
 }
 
 /// Of the number in ticks at which a well-formed sheet is refused.
 pub fn of_ticks(text: &[u8], place: usize) -> &'static str {
     let (tick, times) = times_of_sheet(text);
-    let cause = match (place % ROW_WIDTH, times[place] < tick) {
-        (1, true) => 3,
-        (2, true) => 4,
-        (column, _) => column,
+    let column = place % ROW_WIDTH;
+    let cause = match (column, times[place / ROW_WIDTH][column] < tick) {
+        (1, true) => 5,
+        (2, true) => 6,
+        _ => column,
     };
     OF_TICKS[cause]
 }

@@ -2,6 +2,7 @@
 //! verdict judges each.
 
 use crate::judge::Judge;
+use crate::make;
 use common::random::Random;
 use common::widths::{rows_of, PLANNED_WIDTH};
 use second::{all_plans, busy_period, Row};
@@ -11,7 +12,8 @@ fn small_table(random: &mut Random) -> Vec<u32> {
     let row = |_| {
         let t = random.from_to(2, 16);
         let c = random.from_to(1, longest.min(t));
-        [c as u32, random.from_to(c, c + 6) as u32, t as u32]
+        let d = random.from_to(c, c + 6);
+        make::row(random, c, d, t)
     };
     (0..rows).flat_map(row).collect()
 }
@@ -30,6 +32,9 @@ pub fn against_all_plans(judge: &mut Judge, random: &mut Random, cases: usize) {
         }
         let given = judge.plan(&table, PLANNED_WIDTH * rows_of(&table)).is_some();
         judge.counts.add(if given { "complete: some plan passes" } else { "complete: no plan passes" });
+        if !given && rows.iter().any(|row| row.region > 0) {
+            judge.counts.add("complete: no plan passes with middle regions");
+        }
         if given != some_plan_passes {
             judge.fault(|| format!("{table:?}: plan given {given}, some plan passes {some_plan_passes}"));
         }

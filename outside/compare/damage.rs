@@ -21,12 +21,20 @@ fn resize(random: &mut Random, numbers: &mut Vec<u32>, beyond: usize) {
     }
 }
 
+/// Any of the five numbers of a row: outside 1 to 1,000,000 or, where it is of a region, so that
+/// the region ends at C or a start has no length.
 pub fn table(random: &mut Random, table: &mut Vec<u32>) {
     if random.once_in(3) {
-        resize(random, table, MOST_TABLE_NUMBERS + ROW_WIDTH);
-    } else if !table.is_empty() {
-        let at = random.below(table.len());
-        table[at] = random.pick(&BAD_NUMBERS);
+        return resize(random, table, MOST_TABLE_NUMBERS + ROW_WIDTH);
+    }
+    let rows = rows_of(table);
+    let Some(row) = table.chunks_exact_mut(ROW_WIDTH).nth(random.below(rows.max(1))) else { return };
+    let (c, start, length) = (row[0], row[3], row[4]);
+    match random.below(5) {
+        0 => row[3] = c.wrapping_sub(length),
+        1 => row[4] = c.wrapping_sub(start),
+        2 => (row[3], row[4]) = (start.max(1), 0),
+        _ => row[random.below(ROW_WIDTH)] = random.pick(&BAD_NUMBERS),
     }
 }
 
@@ -36,14 +44,15 @@ pub fn plan(random: &mut Random, plan: &mut Vec<u32>, table: &[u32]) {
     }
     let rows = plan.len() / PLAN_WIDTH;
     let row = random.below(rows.max(1));
-    let c = table.get(ROW_WIDTH * row).copied().unwrap_or(1);
+    let (c, region_end) = table.chunks_exact(ROW_WIDTH).nth(row).map_or((1, 0), |r| (r[0], r[3].wrapping_add(r[4])));
     let rank = PLAN_WIDTH * row;
-    let (at, value) = match random.below(6) {
+    let (at, value) = match random.below(7) {
         0 => (rank, 0),
         1 => (rank, rows as u32 + 1),
         2 => (rank, plan[PLAN_WIDTH * random.below(rows.max(1))]),
         3 => (rank + 1, 0),
         4 => (rank + 1, c.wrapping_add(1)),
+        5 => (rank + 1, c.wrapping_sub(region_end).wrapping_add(1)),
         _ => (random.below(plan.len()), random.pick(&BAD_NUMBERS)),
     };
     if at < plan.len() {

@@ -9,7 +9,8 @@ use second::{busy_period, finishes, Job, Placed, Row};
 
 const MOST_RUNS: u64 = 20_000;
 
-/// Long enough for a lower row to reach its region and for a whole busy period after it.
+/// Long enough for a lower row to reach its final region, the later of its two, and for a whole busy
+/// period after it.
 fn window(rows: &[Row], placed: &[Placed]) -> Option<u64> {
     let region = rows.iter().zip(placed).map(|(row, p)| row.c - u64::from(p.length) + 1).max()?;
     Some(region + busy_period(rows)?)
@@ -54,7 +55,8 @@ fn small_table(random: &mut Random) -> Vec<u32> {
     let rows = random.pick(&[1, 2, 2, 2, 3]);
     let row = |_| {
         let c = random.from_to(1, if rows == 3 { 2 } else { 4 });
-        [c as u32, 1 + random.below(9) as u32, random.from_to(c, 12) as u32]
+        let (d, t) = (random.from_to(1, 9), random.from_to(c, 12));
+        make::row(random, c, d, t)
     };
     (0..rows).flat_map(row).collect()
 }
@@ -86,6 +88,9 @@ pub fn of_small_tables(judge: &mut Judge, random: &mut Random, cases: usize) {
             judge.fault(|| format!("{table:?} {plan:?}: longest of {seen} runs {longest:?}, responses {responses:?}"));
         }
         judge.counts.add("tables with every run in a window");
+        if rows.iter().zip(&placed).any(|(row, p)| p.rank > 1 && row.region > p.length.into()) {
+            judge.counts.add("tables with every run in a window, a middle region blocking");
+        }
         for jobs in sample {
             let list: Vec<u32> = jobs.iter().flat_map(|j| [j.row as u32, j.release as u32, j.run as u32]).collect();
             judge.play(&table, &plan, &list, jobs.len());

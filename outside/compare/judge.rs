@@ -91,12 +91,14 @@ impl Judge {
     pub fn plan(&mut self, table: &[u32], room: usize) -> Option<Vec<u32>> {
         let slices = vec![bytes(table), self.output(4 * room)];
         let expected = second::plan(table, room).map(|out| (out.len() as u64, bytes(&out)));
+        self.count_cause(Operation::Plan, &expected, 3, |place| causes::of_table(table, place));
         Some(numbers(&self.hold(Call { operation: Operation::Plan, slices, number: 0 }, true, expected)?.1))
     }
 
     pub fn times(&mut self, table: &[u32], plan: &[u32], room: usize) -> Option<Vec<u32>> {
         let slices = vec![bytes(table), bytes(plan), self.output(4 * room)];
         let expected = second::times(table, plan, room).map(|out| (out.len() as u64, bytes(&out)));
+        self.count_cause(Operation::Times, &expected, 3, |place| causes::of_table(table, place));
         self.count_cause(Operation::Times, &expected, 6, |row| causes::of_plan(table, plan, row));
         Some(numbers(&self.hold(Call { operation: Operation::Times, slices, number: 0 }, true, expected)?.1))
     }
@@ -104,6 +106,7 @@ impl Judge {
     pub fn verdict(&mut self, table: &[u32], plan: &[u32]) -> Option<bool> {
         let slices = vec![bytes(table), bytes(plan)];
         let expected = second::verdict(table, plan).map(|yes| (u64::from(yes), vec![]));
+        self.count_cause(Operation::Verdict, &expected, 3, |place| causes::of_table(table, place));
         self.count_cause(Operation::Verdict, &expected, 6, |row| causes::of_plan(table, plan, row));
         let yes = self.hold(Call { operation: Operation::Verdict, slices, number: 0 }, false, expected)?.0 == 1;
         self.counts.add(if yes { "Verdict yes" } else { "Verdict no" });
@@ -112,6 +115,7 @@ impl Judge {
 
     pub fn play(&mut self, table: &[u32], plan: &[u32], jobs: &[u32], room: usize) -> Option<Vec<u32>> {
         let expected = second::play(table, plan, jobs, room);
+        self.count_cause(Operation::Play, &expected, 3, |place| causes::of_table(table, place));
         self.count_cause(Operation::Play, &expected, 6, |row| causes::of_plan(table, plan, row));
         self.count_cause(Operation::Play, &expected, 8, |job| causes::of_job(table, jobs, job));
         self.play_expecting(table, plan, jobs, room, expected)

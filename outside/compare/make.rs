@@ -2,6 +2,7 @@
 
 use common::random::Random;
 use common::widths::{rows_of, JOB_WIDTH, MOST_ROWS, PLANNED_WIDTH, ROW_WIDTH, TIMES_WIDTH};
+use second::Row;
 
 const MOST: u64 = 1_000_000;
 
@@ -17,8 +18,35 @@ fn deadline(random: &mut Random, c: u64, t: u64) -> u64 {
     d.clamp(1, MOST)
 }
 
-fn row(random: &mut Random, c: u64, t: u64) -> [u32; ROW_WIDTH] {
-    [c as u32, deadline(random, c, t) as u32, t as u32]
+/// Start and length of a middle region, or of none: from the first tick on, up to the tick before C
+/// or anywhere, of one tick, as long as it may be or between.
+fn region(random: &mut Random, c: u64) -> (u64, u64) {
+    if c == 1 || random.once_in(2) {
+        return (0, 0);
+    }
+    let last_end = c - 1;
+    let length = match random.below(4) {
+        0 => 1,
+        1 => last_end,
+        _ => random.from_to(1, last_end),
+    };
+    let start = match random.below(4) {
+        0 => 0,
+        1 => last_end - length,
+        _ => random.from_to(0, last_end - length),
+    };
+    (start, length)
+}
+
+/// A row with some middle region, if C leaves room for one.
+pub fn row(random: &mut Random, c: u64, d: u64, t: u64) -> [u32; ROW_WIDTH] {
+    let (start, length) = region(random, c);
+    [c, d, t, start, length].map(|number| number as u32)
+}
+
+fn row_due(random: &mut Random, c: u64, t: u64) -> [u32; ROW_WIDTH] {
+    let d = deadline(random, c, t);
+    row(random, c, d, t)
 }
 
 /// Rows with spacings from `least` to `most` whose runs share about `percent` of the processor.
@@ -28,7 +56,7 @@ fn shared(random: &mut Random, rows: usize, least: u64, most: u64, percent: u64)
     let one = |weight: &u64| {
         let t = random.from_to(least, most);
         let c = (t * percent * weight / (100 * total)).clamp(1, MOST);
-        row(random, c, t)
+        row_due(random, c, t)
     };
     weights.iter().map(one).collect::<Vec<_>>().concat()
 }
@@ -46,10 +74,10 @@ fn full(random: &mut Random, rows: usize) -> Vec<u32> {
         if most > 0 {
             let c = random.from_to(1, most.min(t));
             left -= c * share;
-            table.push(row(random, c, t));
+            table.push(row_due(random, c, t));
         }
     }
-    table.push(row(random, left, whole));
+    table.push(row_due(random, left, whole));
     table.concat()
 }
 
@@ -62,7 +90,7 @@ pub fn table(random: &mut Random) -> Vec<u32> {
                 .flat_map(|_| {
                     let c = random.from_to(1, 4);
                     let t = random.from_to(1, 14);
-                    row(random, c, t)
+                    row_due(random, c, t)
                 })
                 .collect()
         }
@@ -95,19 +123,19 @@ pub fn tight(random: &mut Random, table: &[u32]) -> (Vec<u32>, Vec<u32>) {
     (tight, some_plan)
 }
 
-/// Ranks in any order, lengths from 1 to C.
+/// Ranks in any order, lengths from 1 to the longest that each row's middle region leaves.
 pub fn plan(random: &mut Random, table: &[u32]) -> Vec<u32> {
     let rows = rows_of(table);
     let mut ranks: Vec<u32> = (1..=rows as u32).collect();
     for i in (1..rows).rev() {
         ranks.swap(i, random.below(i + 1));
     }
-    let length = |random: &mut Random, c: u32| match random.below(4) {
+    let length = |random: &mut Random, cap: u64| match random.below(4) {
         0 => 1,
-        1 => c,
-        _ => random.from_to(1, c.into()) as u32,
+        1 => cap,
+        _ => random.from_to(1, cap),
     };
-    (0..rows).flat_map(|i| [ranks[i], length(random, table[ROW_WIDTH * i])]).collect()
+    Row::of_table(table).iter().zip(ranks).flat_map(|(row, rank)| [rank, length(random, row.cap()) as u32]).collect()
 }
 
 /// Up to `most` jobs, each row's releases at their least spacing or a little wider, listed in order
@@ -160,19 +188,36 @@ fn time(random: &mut Random, tick: u64) -> u64 {
     us.min(MOST_TIME)
 }
 
+/// Start and length of a middle region in microseconds: mostly within the run less a tick, near its
+/// end or anywhere; at times any two times at all.
+fn region_of_line(random: &mut Random, c: u64, tick: u64) -> (u64, u64) {
+    let last_end = c.saturating_sub(random.from_to(0, 2 * tick));
+    if last_end == 0 || random.once_in(12) {
+        return (time(random, tick) - 1, time(random, tick));
+    }
+    let end = if random.once_in(3) { last_end } else { random.from_to(1, last_end) };
+    let length = if random.once_in(3) { random.from_to(1, end.min(2 * tick)) } else { random.from_to(1, end) };
+    (end - length, length)
+}
+
 /// A well-formed sheet, its numbers at all sizes.
 pub fn sheet(random: &mut Random) -> Vec<u8> {
     let rows = if random.once_in(10) { MOST_ROWS } else { 1 + random.below(4) };
     let tick = number(random, 1_000);
     let mut text = format!("tick {tick}\n");
     for _ in 0..rows {
-        let [c, d, t] = [0; ROW_WIDTH].map(|_| time(random, tick));
-        text += &format!("task {c} {d} {t}\n");
+        let (c, d, t) = (time(random, tick), time(random, tick), time(random, tick));
+        text += &format!("task {c} {d} {t}");
+        if random.once_in(2) {
+            let (start, length) = region_of_line(random, c, tick);
+            text += &format!(" {start} {length}");
+        }
+        text += "\n";
     }
     text.into_bytes()
 }
 
-/// Any 32-bit numbers, three a row, the edges of each count of digits among them.
+/// Any 32-bit numbers, the edges of each count of digits among them.
 pub fn planned(random: &mut Random) -> Vec<u32> {
     let rows = if random.once_in(6) { MOST_ROWS } else { 1 + random.below(12) };
     let number = |_| match random.below(4) {

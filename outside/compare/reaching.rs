@@ -3,7 +3,7 @@
 use crate::judge::Judge;
 use crate::{afford, large, make};
 use common::random::Random;
-use common::widths::{jobs_of, rows_of, JOB_WIDTH, MOST_JOBS, MOST_ROWS, TIMES_WIDTH};
+use common::widths::{jobs_of, plain, rows_of, JOB_WIDTH, MOST_JOBS, MOST_ROWS, TIMES_WIDTH};
 use second::{job_fault, Level, Placed, Row, MOST};
 
 /// A job list in which a job takes its row's response.
@@ -12,7 +12,13 @@ struct Reaching {
     /// That job's place in the list, and how many jobs of its row come before it.
     job: usize,
     earlier: u64,
-    blocked: bool,
+    blocked: Option<Blocked>,
+}
+
+/// By which of its regions the lower row blocks.
+enum Blocked {
+    Middle,
+    Final,
 }
 
 /// A job of the lower row with the longest region is alone until it has executed one tick of that
@@ -25,9 +31,14 @@ fn reaching(rows: &[Row], placed: &[Placed], i: usize) -> Option<Reaching> {
     let response = spans.iter().max()?;
     let earlier = spans.iter().position(|span| span == response)? as u64;
     let start = response + earlier * rows[i].t - length;
-    let below = (0..rows.len()).filter(|&j| placed[j].rank > placed[i].rank && placed[j].length > 1);
-    let blocker = below.max_by_key(|&j| placed[j].length);
-    let level_from = blocker.map_or(0, |j| rows[j].c - u64::from(placed[j].length) + 1);
+    let blocks = |j: usize| rows[j].longer(placed[j].length);
+    let below = (0..rows.len()).filter(|&j| placed[j].rank > placed[i].rank && blocks(j) > 1);
+    let blocker = below.max_by_key(|&j| blocks(j));
+    let (level_from, blocked) = match blocker {
+        None => (0, None),
+        Some(j) if rows[j].region > placed[j].length.into() => (rows[j].start + 1, Some(Blocked::Middle)),
+        Some(j) => (rows[j].c - u64::from(placed[j].length) + 1, Some(Blocked::Final)),
+    };
     let mut releases: Vec<(u64, usize)> = blocker.map(|j| (0, j)).into_iter().collect();
     for j in (0..rows.len()).filter(|&j| placed[j].rank <= placed[i].rank) {
         let again = if j == i { earlier } else { start / rows[j].t };
@@ -39,7 +50,7 @@ fn reaching(rows: &[Row], placed: &[Placed], i: usize) -> Option<Reaching> {
     }
     let job = releases.iter().rposition(|(_, j)| *j == i)?;
     let list = releases.iter().flat_map(|(release, j)| [*j as u32, *release as u32, rows[*j].c as u32]).collect();
-    Some(Reaching { list, job, earlier, blocked: blocker.is_some() })
+    Some(Reaching { list, job, earlier, blocked })
 }
 
 /// Has the library play the list for row i, and holds it to the responses that it gave.
@@ -48,7 +59,11 @@ fn row(judge: &mut Judge, table: &[u32], plan: &[u32], responses: &[u32], i: usi
     let Some(Reaching { list, job, earlier, blocked }) = reaching(&rows, &placed, i) else {
         return judge.counts.add("reaching: lists that play does not take");
     };
-    judge.counts.add(if blocked { "reaching: blocking above 0" } else { "reaching: blocking 0" });
+    judge.counts.add(match blocked {
+        None => "reaching: blocking 0",
+        Some(Blocked::Final) => "reaching: blocking above 0, by a final region",
+        Some(Blocked::Middle) => "reaching: blocking above 0, by a middle region",
+    });
     if earlier > 0 {
         judge.counts.add("reaching: by a job after the first");
     }
@@ -75,16 +90,22 @@ fn every_row(judge: &mut Judge, table: &[u32], plan: &[u32]) {
     }
 }
 
-/// Document 01's tables under its plans.
+/// Document 01's tables under its plans, and some of request (ii).
 pub fn figures(judge: &mut Judge) {
-    let three = [1, 4, 4, 1, 6, 6, 4, 12, 12];
-    every_row(judge, &[1, 1, 1], &[1, 1]);
-    every_row(judge, &[2, 5, 5, 4, 7, 7], &[1, 1, 2, 2]);
-    every_row(judge, &[2, 5, 5, 4, 6, 7], &[1, 1, 2, 3]);
+    let three = plain(&[(1, 4, 4), (1, 6, 6), (4, 12, 12)]);
+    every_row(judge, &plain(&[(1, 1, 1)]), &[1, 1]);
+    every_row(judge, &plain(&[(2, 5, 5), (4, 7, 7)]), &[1, 1, 2, 2]);
+    every_row(judge, &plain(&[(2, 5, 5), (4, 6, 7)]), &[1, 1, 2, 3]);
     every_row(judge, &three, &[2, 1, 1, 1, 3, 1]);
     every_row(judge, &three, &[1, 1, 2, 1, 3, 3]);
     every_row(judge, &three, &[1, 1, 2, 1, 3, 4]);
-    every_row(judge, &[500_000, 1_000_000, 1_000_000].repeat(2), &[2, 1, 1, 1]);
+    every_row(judge, &plain(&[(500_000, 1_000_000, 1_000_000); 2]), &[2, 1, 1, 1]);
+    every_row(judge, &[2, 5, 8, 0, 0, 3, 5, 4, 0, 2], &[2, 2, 1, 1]);
+    every_row(judge, &[3, 4, 4, 0, 2, 1, 2, 4, 0, 0], &[2, 1, 1, 1]);
+    every_row(judge, &[3, 4, 5, 0, 1, 1, 2, 3, 0, 0], &[2, 2, 1, 1]);
+    every_row(judge, &[2, 5, 5, 0, 0, 4, 7, 7, 0, 2], &[1, 1, 2, 2]);
+    every_row(judge, &[5, 20, 20, 1, 3, 1, 9, 9, 0, 0], &[2, 1, 1, 1]);
+    every_row(judge, &[5, 20, 20, 1, 2, 1, 9, 9, 0, 0], &[2, 2, 1, 1]);
 }
 
 pub fn tables(judge: &mut Judge, random: &mut Random, cases: usize) {
@@ -104,7 +125,7 @@ fn crowded(random: &mut Random) -> Vec<u32> {
     let row = |_| {
         let size = random.pick(&[1, 8, 64, 512]);
         let t = random.from_to(20 * rows, 60 * rows) * size;
-        [(t / rows) as u32, t as u32, t as u32]
+        make::row(random, t / rows, t, t)
     };
     (0..rows).flat_map(row).collect()
 }

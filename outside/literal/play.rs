@@ -16,8 +16,10 @@ pub fn finishes(tasks: &[Task], plan: &Plan, jobs: &[Job], out: &mut [u32]) {
                 continue;
             }
             let row = row as usize;
-            let preemptible = executed[job] <= tasks[row][0] - plan[row].length;
-            let key = (preemptible, plan[row].rank, job);
+            let [c, _, _, start, region] = tasks[row];
+            let in_final = executed[job] > c - plan[row].length;
+            let in_middle = executed[job] > start && executed[job] < start + region;
+            let key = (!in_final && !in_middle, plan[row].rank, job);
             if picked.is_none_or(|best| key < best) {
                 picked = Some(key);
             }

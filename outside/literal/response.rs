@@ -1,7 +1,7 @@
 //! Responses with every fixed point iterated from its lowest value.
 
 use crate::places::{Row, Rows};
-use crate::surface::rows::{Plan, Task, HORIZON, MOST_ROWS};
+use crate::surface::rows::{longer, Plan, Task, HORIZON, MOST_ROWS};
 use crate::work;
 
 /// Iterates a right side from `from` until it repeats, exceeds the horizon, or the work is over.
@@ -64,7 +64,7 @@ pub fn responses(tasks: &[Task], plan: &mut Plan) -> Option<()> {
         for j in 0..rows.n {
             above[j] = plan[j].rank < plan[i].rank;
             if plan[j].rank > plan[i].rank {
-                blocking = blocking.max(u64::from(plan[j].length) - 1);
+                blocking = blocking.max(u64::from(longer(tasks[j], plan[j].length)) - 1);
             }
         }
         plan[i].response = response(rows, i, &above, blocking, plan[i].length.into(), HORIZON)? as u32;

@@ -19,17 +19,19 @@ impl Placed {
 /// The shortest length with which row i passes below all other rows that have no place yet.
 fn shortest(rows: &[Row], places: &[Option<Placed>], i: usize) -> Option<u32> {
     let above = (0..rows.len()).filter(|&j| j != i && places[j].is_none()).map(|j| rows[j]).collect();
-    let blocking = places.iter().flatten().map(|p| u64::from(p.length) - 1).max().unwrap_or(0);
-    let level = Level::new(rows[i], above, blocking);
-    (1..=rows[i].c).find(|q| level.response(*q) <= rows[i].d).map(|q| q as u32)
+    let below = places.iter().zip(rows).filter_map(|(place, row)| Some(row.longer((*place)?.length) - 1));
+    let level = Level::new(rows[i], above, below.max().unwrap_or(0));
+    (1..=rows[i].cap()).find(|q| level.response(*q) <= rows[i].d).map(|q| q as u32)
 }
 
 pub fn chosen(rows: &[Row]) -> Option<Vec<Placed>> {
     let mut places = vec![None; rows.len()];
     for rank in (1..=rows.len() as u32).rev() {
-        let passing =
-            (0..rows.len()).filter(|&i| places[i].is_none()).filter_map(|i| Some((shortest(rows, &places, i)?, i)));
-        let (length, row) = passing.min()?;
+        let passing = (0..rows.len()).filter(|&i| places[i].is_none()).filter_map(|i| {
+            let length = shortest(rows, &places, i)?;
+            Some((rows[i].longer(length), i, length))
+        });
+        let (_, row, length) = passing.min()?;
         places[row] = Some(Placed { rank, length });
     }
     places.into_iter().collect()
@@ -55,7 +57,7 @@ pub fn all_plans(rows: &[Row]) -> Vec<Vec<Placed>> {
         for (row, rank) in rows.iter().zip(ranks) {
             let longer = |plan: &Vec<Placed>| {
                 let plan = plan.clone();
-                (1..=row.c as u32).map(move |length| [plan.clone(), vec![Placed { rank, length }]].concat())
+                (1..=row.cap() as u32).map(move |length| [plan.clone(), vec![Placed { rank, length }]].concat())
             };
             begun = begun.iter().flat_map(longer).collect();
         }

@@ -39,8 +39,10 @@ pub fn finishes(rows: &[Row], placed: &[Placed], jobs: &[Job]) -> Vec<u64> {
             released += 1;
         }
         let runs_on = |&row: &usize| {
-            let preemptible = rows[row].c - u64::from(placed[row].length);
-            queues[row].front().is_some_and(|first| first.executed > preemptible)
+            let Row { c, start, region, .. } = rows[row];
+            let in_final = |executed: u64| executed > c - u64::from(placed[row].length);
+            let in_middle = |executed: u64| start < executed && executed < start + region;
+            queues[row].front().is_some_and(|first| in_final(first.executed) || in_middle(first.executed))
         };
         let highest = |&row: &usize| !queues[row].is_empty();
         let picked = by_rank.iter().copied().find(runs_on).or_else(|| by_rank.iter().copied().find(highest));

@@ -26,7 +26,7 @@ const MOST_ROWS: usize = 32;
 const MOST_JOBS: usize = 4_096;
 
 /// Numbers a row of a table, of a plan and of a planned table, and numbers a job.
-const ROW_WIDTH: usize = 3;
+const ROW_WIDTH: usize = 5;
 const PLAN_WIDTH: usize = 2;
 const PLANNED_WIDTH: usize = 3;
 const JOB_WIDTH: usize = 3;
@@ -52,9 +52,10 @@ fn refuse_at(fault: Option<usize>, number: u32) -> Answer<()> {
     refuse_if(fault.is_some(), number, fault.unwrap_or(0))
 }
 
-fn checked_table(table: &[u32]) -> Answer<Vec<Row>> {
+/// The rows of a sound table, or its refusal.
+pub fn checked_table(table: &[u32]) -> Answer<Vec<Row>> {
     refuse_if(shape_fault(table, ROW_WIDTH), 1, 0)?;
-    refuse_at(range_fault(table), 3)?;
+    refuse_at(range_fault(&table.iter().map(|v| u64::from(*v)).collect::<Vec<_>>()), 3)?;
     Ok(Row::of_table(table))
 }
 
@@ -101,7 +102,7 @@ pub fn sheet(text: &[u8], room: usize) -> Answer<Vec<u32>> {
         Some(read) => read.in_ticks(),
         None => return Err(Refusal { number: 9, place: sheet::longest_beginning(text) as u32 }),
     };
-    refuse_at(ticks.iter().position(|v| !(1..=MOST).contains(v)), 3)?;
+    refuse_at(range_fault(&ticks), 3)?;
     refuse_if(room < ticks.len(), 2, 0)?;
     Ok(ticks.iter().map(|v| *v as u32).collect())
 }

@@ -9,11 +9,28 @@ pub struct Row {
     pub c: u64,
     pub d: u64,
     pub t: u64,
+    /// The ticks that a job executes before its middle region, and the length of that region.
+    pub start: u64,
+    pub region: u64,
 }
 
 impl Row {
     pub fn of_table(table: &[u32]) -> Vec<Row> {
-        table.chunks(ROW_WIDTH).map(|r| Row { c: r[0].into(), d: r[1].into(), t: r[2].into() }).collect()
+        let row = |r: &[u32]| {
+            let number = |i: usize| u64::from(r[i]);
+            Row { c: number(0), d: number(1), t: number(2), start: number(3), region: number(4) }
+        };
+        table.chunks(ROW_WIDTH).map(row).collect()
+    }
+
+    /// The longest that the final region may be: from the middle one's end to C.
+    pub fn cap(&self) -> u64 {
+        self.c - (self.start + self.region)
+    }
+
+    /// The longer of the row's two regions, the final one being of this length.
+    pub fn longer(&self, length: u32) -> u64 {
+        self.region.max(length.into())
     }
 }
 
@@ -58,7 +75,7 @@ impl Level {
         let others =
             |higher: bool| (0..rows.len()).filter(move |&j| j != i && (placed[j].rank < placed[i].rank) == higher);
         let above = others(true).map(|j| rows[j]).collect();
-        let blocking = others(false).map(|j| u64::from(placed[j].length) - 1).max().unwrap_or(0);
+        let blocking = others(false).map(|j| rows[j].longer(placed[j].length) - 1).max().unwrap_or(0);
         Level::new(rows[i], above, blocking)
     }
 

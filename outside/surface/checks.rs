@@ -1,7 +1,7 @@
 //! The refusals of tables, plans and job lists, each in one pass.
 
 use super::answer::Refusal;
-use super::rows::{Job, Plan, Planned, Task, JOB_WIDTH, MOST, MOST_JOBS, MOST_ROWS, PLAN_WIDTH};
+use super::rows::{cap, Job, Plan, Planned, Task, JOB_WIDTH, MOST, MOST_JOBS, MOST_ROWS, PLAN_WIDTH, ROW_WIDTH};
 
 pub fn shape<const WIDTH: usize>(numbers: &[u32]) -> Result<&[[u32; WIDTH]], Refusal> {
     let (rows, rest) = numbers.as_chunks();
@@ -11,11 +11,19 @@ pub fn shape<const WIDTH: usize>(numbers: &[u32]) -> Result<&[[u32; WIDTH]], Ref
     Ok(rows)
 }
 
+/// The column of the first number at fault. A region's end may not fit into 32 bits.
+fn column_at_fault([c, d, t, start, region]: Task) -> Option<usize> {
+    let outside = |v: u32| v == 0 || v > MOST;
+    let start_at_fault = start > MOST || (start > 0 && region == 0);
+    let region_at_fault = region > 0 && u64::from(start) + u64::from(region) >= u64::from(c);
+    [outside(c), outside(d), outside(t), start_at_fault, region_at_fault].into_iter().position(|at_fault| at_fault)
+}
+
 pub fn table(numbers: &[u32]) -> Result<&[Task], Refusal> {
     let tasks = shape(numbers)?;
-    for (i, v) in numbers.iter().enumerate() {
-        if *v == 0 || *v > MOST {
-            return Err(Refusal(3, i));
+    for (row, task) in tasks.iter().enumerate() {
+        if let Some(column) = column_at_fault(*task) {
+            return Err(Refusal(3, ROW_WIDTH * row + column));
         }
     }
     Ok(tasks)
@@ -28,9 +36,9 @@ pub fn plan(tasks: &[Task], numbers: &[u32]) -> Result<Plan, Refusal> {
     }
     let mut plan = [Planned::default(); MOST_ROWS];
     let mut seen = 0u64;
-    for (i, (&[rank, length], [c, ..])) in rows.iter().zip(tasks).enumerate() {
+    for (i, (&[rank, length], task)) in rows.iter().zip(tasks).enumerate() {
         let fits = rank >= 1 && rank as usize <= tasks.len() && seen >> rank & 1 == 0;
-        if !fits || length == 0 || length > *c {
+        if !fits || length == 0 || length > cap(*task) {
             return Err(Refusal(6, i));
         }
         seen |= 1 << rank;

@@ -50,7 +50,7 @@ fn verdict(table: &[u32], plan: &[u32]) -> Result<u64, Refusal> {
     let tasks = checks::table(table)?;
     let mut plan = checks::plan(tasks, plan)?;
     response::responses(tasks, &mut plan).ok_or(Refusal(4, 0))?;
-    Ok(tasks.iter().zip(&plan).all(|([_, d, _], p)| p.response <= *d).into())
+    Ok(tasks.iter().zip(&plan).all(|([_, d, ..], p)| p.response <= *d).into())
 }
 
 fn play(table: &[u32], plan: &[u32], jobs: &[u32], out: &mut [u32]) -> Result<u64, Refusal> {

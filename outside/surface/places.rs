@@ -16,7 +16,7 @@ pub struct Rows {
 impl Rows {
     pub fn of(tasks: &[Task]) -> Rows {
         let mut rows = Rows { row: [Row::default(); MOST_ROWS], n: tasks.len() };
-        for (row, [c, _, t]) in rows.row.iter_mut().zip(tasks) {
+        for (row, [c, _, t, ..]) in rows.row.iter_mut().zip(tasks) {
             *row = Row { c: u64::from(*c), t: u64::from(*t) };
         }
         rows

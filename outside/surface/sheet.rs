@@ -2,7 +2,8 @@
 //! went wrong.
 
 use super::answer::Refusal;
-use super::rows::{MOST, MOST_ROWS, ROW_WIDTH};
+use super::checks;
+use super::rows::{Task, MOST_ROWS, ROW_WIDTH};
 
 const MOST_NUMBERS: usize = ROW_WIDTH * MOST_ROWS;
 const MOST_TICK: u64 = 1_000;
@@ -29,6 +30,7 @@ impl Cursor<'_> {
         Ok(())
     }
 
+    /// A number from 1 to `most`.
     fn number(&mut self, most: u64) -> Result<u64, Refusal> {
         let mut value = 0;
         while let Some(digit @ b'0'..=b'9') = self.here() {
@@ -44,14 +46,37 @@ impl Cursor<'_> {
         }
         Ok(value)
     }
-}
 
-/// The whole ticks of a time, by its column: a run is rounded up, a deadline or a spacing down.
-fn in_ticks(column: usize, time: u64, tick: u64) -> u64 {
-    if column == 0 {
-        (time + tick - 1) / tick
-    } else {
-        time / tick
+    /// A number from 0 to `most`.
+    fn number_or_0(&mut self, most: u64) -> Result<u64, Refusal> {
+        if self.here() == Some(b'0') {
+            self.at += 1;
+            return Ok(0);
+        }
+        self.number(most)
+    }
+
+    /// A task line in ticks: a run and a region's end are rounded up, a deadline, a spacing and a
+    /// region's start down.
+    fn task(&mut self, tick: u64) -> Result<Task, Refusal> {
+        let up = |time: u64| (time + tick - 1) / tick;
+        let down = |time: u64| time / tick;
+        self.word(b"task ")?;
+        let c = up(self.number(MOST_TIME)?);
+        self.word(b" ")?;
+        let d = down(self.number(MOST_TIME)?);
+        self.word(b" ")?;
+        let t = down(self.number(MOST_TIME)?);
+        let (mut start, mut end) = (0, 0);
+        if self.here() == Some(b' ') {
+            self.at += 1;
+            let from = self.number_or_0(MOST_TIME)?;
+            self.word(b" ")?;
+            let length = self.number(MOST_TIME)?;
+            (start, end) = (down(from), up(from + length));
+        }
+        self.word(b"\n")?;
+        Ok([c, d, t, start, end - start].map(|ticks| ticks as u32))
     }
 }
 
@@ -60,27 +85,15 @@ pub fn table(text: &[u8]) -> Result<([u32; MOST_NUMBERS], usize), Refusal> {
     cursor.word(b"tick ")?;
     let tick = cursor.number(MOST_TICK)?;
     cursor.word(b"\n")?;
-    let mut ticks = [0u64; MOST_NUMBERS];
-    let mut rows = 0;
-    while rows == 0 || cursor.at < text.len() {
-        if rows == MOST_ROWS {
+    let mut table = [0; MOST_NUMBERS];
+    let mut length = 0;
+    while length == 0 || cursor.at < text.len() {
+        if length == MOST_NUMBERS {
             return Err(Refusal(9, cursor.at));
         }
-        cursor.word(b"task")?;
-        for (column, value) in ticks[ROW_WIDTH * rows..][..ROW_WIDTH].iter_mut().enumerate() {
-            cursor.word(b" ")?;
-            *value = in_ticks(column, cursor.number(MOST_TIME)?, tick);
-        }
-        cursor.word(b"\n")?;
-        rows += 1;
+        table[length..][..ROW_WIDTH].copy_from_slice(&cursor.task(tick)?);
+        length += ROW_WIDTH;
     }
-    let length = ROW_WIDTH * rows;
-    let mut table = [0; MOST_NUMBERS];
-    for (i, (number, value)) in table.iter_mut().zip(ticks).take(length).enumerate() {
-        if value == 0 || value > MOST.into() {
-            return Err(Refusal(3, i));
-        }
-        *number = value as u32;
-    }
+    checks::table(&table[..length])?;
     Ok((table, length))
 }

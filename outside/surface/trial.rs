@@ -32,7 +32,7 @@ impl<F: Fn(u64) -> u64> Trial<F> {
     /// The largest finish less release over all jobs, left at the first job that passes `limit`.
     /// A job's start is looked for from the start of the job before it on.
     pub fn response(&self, length: u64, limit: u64) -> Option<u64> {
-        let [c, _, t] = self.own.map(u64::from);
+        let [c, _, t, ..] = self.own.map(u64::from);
         let mut base = self.first - length;
         let mut start = base;
         let mut release = 0;

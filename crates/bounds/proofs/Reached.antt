@@ -12,15 +12,16 @@ use Rattle.counting.proofs.Cases.{by-eq, by-le, not-both}
 use Rattle.counting.proofs.Up.{le-up}
 use Rattle.counting.proofs.Sum.{given-yes, sum-le, sum-delta, sum-ge}
 use Rattle.tables.specs.Table.{Table, Sound}
-use Rattle.tables.specs.Plan.{Plan, WellFormed}
+use Rattle.tables.specs.Plan.{Plan, WellFormed, blocks}
 use Rattle.tables.specs.Jobs.{Jobs, Lawful}
-use Rattle.tables.proofs.Plan.{cap-run, longer-is}
-use Rattle.test.specs.Test.{before, upto, load, Start, above, blocking, ResponseOf}
+use Rattle.tables.proofs.Plan.{cap-run, cap-end, longer-is}
+use Rattle.test.specs.Test.{before, upto, load, Start, above, longest, blocking, ResponseOf}
 use Rattle.test.proofs.Load.{Positive, sound-positive, load-upto, load-part}
 use Rattle.test.proofs.Sides.{start-side-whole}
 use Rattle.test.proofs.Starts.{start-prefix, start-after}
 use Rattle.test.proofs.Plans.{blocking-is, longest-cases}
 use Rattle.kernel.specs.Rule.{job, locked, executed, Finishes}
+use Rattle.kernel.proofs.Locked.{locked-final, locked-middle, locked-cases}
 use Rattle.kernel.proofs.Rule as R
 use Rattle.kernel.proofs.Executed as X
 use Rattle.kernel.proofs.Finishing as F
@@ -154,8 +155,8 @@ module _ (tb : Table) (sound : Sound tb) (p : Plan) (wf : WellFormed tb p) (i : 
           let cap = cap-run tb i (wf .len-high i il) in
           R.rule-of tb p js (E t) t j run
           (λ _ on.
-          let past = ltb-true (tb .C (js .row j)) (E t j + p .len (js .row j)) (on .held) in
-          omega (arith, ap (tb .C) (J .row), ap (p .len) (J .row)))
+          let ends = cap-end tb i (wf .len-low i il) (wf .len-high i il) in
+          locked-cases tb p i (E t j) (rw (J .row) at (on .held)) (λ past. omega arith) (λ _ past. omega arith))
           (λ _ free lead.
           let x = t - t₀ in
           let same : t₀ + x ≡ t = omega (arith, lead .pends .since, J .release) in
@@ -277,16 +278,28 @@ module _ (tb : Table) (sound : Sound tb) (p : Plan) (wf : WellFormed tb p) (i : 
           taken opening low t₀ κ s st room held R x (x .reached .ends),
         )
 
+    -- at t₀ a job of row l, alone till then, is one tick into the longer of its two regions
+    opened : (l : ℕ) → l < tb .n → r < p .rank l → longest tb p r ≡ blocks tb p l → Exactly R
+    opened l ll lt z =
+        let b = blocking-is tb p r in
+        let ends = cap-end tb l (wf .len-low l ll) (wf .len-high l ll) in
+        let some = wf .len-low l ll in
+        let region = longer-is tb l (p .len l) in
+        by-le (tb .M l) (p .len l)
+        (λ final.
+        let t₀ = tb .C l - p .len l + 1 in
+        build (opens l) (opens-low l lt) t₀
+        (blocked l ll lt t₀ (x .job) s (λ y h. locked-final tb p l (t₀ + y) (omega arith)) (omega arith)))
+        (λ middle.
+        let t₀ = tb .S l + 1 in
+        build (opens l) (opens-low l lt) t₀
+        (blocked l ll lt t₀ (x .job) s (λ y h. locked-middle tb p l (t₀ + y) (omega arith) (omega arith))
+        (omega arith)))
+
     -- the response is reached
     pub reached : Exactly R
     reached =
         let b = blocking-is tb p r in
         longest-cases tb p r
         (λ z. build (λ _. false) (λ h e. not-both false refl e) 0 (λ t _ _. omega arith))
-        (λ l ll lt z.
-        let t₀ = tb .C l - p .len l + 1 in
-        let cap = cap-run tb l (wf .len-high l ll) in
-        let some = wf .len-low l ll in
-        let region = longer-is tb l (p .len l) in
-        build (opens l) (opens-low l lt) t₀
-        (blocked l ll lt t₀ (x .job) s (λ y h. lt-ltb (tb .C l) (t₀ + y + p .len l) (omega arith)) (omega arith)))
+        opened

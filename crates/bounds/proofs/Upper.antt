@@ -13,16 +13,17 @@ use Rattle.counting.specs.Sum.{given, without, sum, count}
 use Rattle.counting.proofs.Cases.{by-bool, by-le, by-eq, and-left, and-right, and-both}
 use Rattle.counting.proofs.Up.{lt-up}
 use Rattle.counting.proofs.Sum.{without-elim, sum-le, sum-lt, sum-add, sum-mul, sum-delta}
-use Rattle.tables.specs.Table.{Table, Sound}
+use Rattle.tables.specs.Table.{Table, Sound, region-end}
 use Rattle.tables.specs.Plan.{Plan, WellFormed}
 use Rattle.tables.specs.Jobs.{Jobs, Lawful}
-use Rattle.tables.proofs.Plan.{cap-run, longer-ge}
+use Rattle.tables.proofs.Plan.{cap-run, cap-end, longer-is}
 use Rattle.test.specs.Test.{before, upto, load, Active, jobs, Start, above, blocking, ResponseOf}
 use Rattle.test.proofs.Load.{Positive, sound-positive, load-mono, load-upto, load-sub}
 use Rattle.test.proofs.Sides.{active-side-is, active-side-level, start-side-whole}
 use Rattle.test.proofs.Starts.{start-exists}
 use Rattle.test.proofs.Plans.{blocking-is, longest-ge}
 use Rattle.kernel.specs.Rule.{locked, executed}
+use Rattle.kernel.proofs.Locked.{locked-final, locked-cases}
 use Rattle.kernel.proofs.Rule as R
 use Rattle.kernel.proofs.Executed as X
 use Rattle.kernel.proofs.Steady as S
@@ -30,23 +31,29 @@ use Rattle.kernel.proofs.Level as Lv
 use Rattle.bounds.proofs.Listing.{sum-three}
 use Rattle.bounds.proofs.Window as W
 
--- a job below rank r is locked for no more ticks than the blocking
+-- a job below rank r is locked for no more ticks than the blocking: while it is locked it stays in one region, since
+-- the middle one ends before the final one begins
 pub locked-short : (tb : Table) (p : Plan) (js : Jobs) → WellFormed tb p → Lawful tb js → (r k e n : ℕ) → k < js .N →
     r < p .rank (js .row k) → e + n ≤ js .run k → ((y : ℕ) → y < n → locked tb p (js .row k) (e + y) ≡ true) →
     n ≤ blocking tb p r
 locked-short tb p js wf lawful r k e n l h fits held =
     let i = js .row k in
+    let il = lawful .row k l in
+    let longest = longest-ge tb p r i il h in
+    let longer = longer-is tb i (p .len i) in
+    let less = blocking-is tb p r in
+    let ends = cap-end tb i (wf .len-low i il) (wf .len-high i il) in
     by-eq n 0
     (λ z. omega arith)
     (λ z.
-    let held₀ = ltb-true (tb .C i) (e + 0 + p .len i) (held 0 (omega arith)) in
-    omega (
-      arith,
-      lawful .run-high k l,
-      longer-ge tb i (p .len i),
-      longest-ge tb p r i (lawful .row k l) h,
-      blocking-is tb p r,
-    ))
+    locked-cases tb p i (e + 0) (held 0 (omega arith))
+    (λ final. omega (arith, lawful .run-high k l))
+    (λ begun on.
+    by-le n (tb .M i - 1)
+    (λ short. omega arith)
+    (λ long.
+    let y = region-end tb i - e in
+    absurd (locked-cases tb p i (e + y) (held y (omega arith)) (λ f. omega arith) (λ _ f. omega arith)))))
 
 module _ (tb : Table) (sound : Sound tb) (p : Plan) (wf : WellFormed tb p) (js : Jobs) (lawful : Lawful tb js)
     (j : ℕ) (jl : j < js .N) where
@@ -304,10 +311,9 @@ module _ (tb : Table) (sound : Sound tb) (p : Plan) (wf : WellFormed tb p) (js :
         (λ h.
         let a = past h in
         let d = js .run j - E t₁ j in
-        let held : locked tb p i (E t₁ j) ≡ true = lt-ltb (tb .C i) (E t₁ j + q) a in
-        let on = X.runs-on tb p js new t₁ j jl (record { left = h; held = held }) in
+        let on = X.runs-on tb p js new t₁ j jl (record { left = h; held = locked-final tb p i (E t₁ j) a }) in
         let after = S.steady tb p js sound wf lawful t₁ j d on (omega arith)
-        (λ x _. inl (S.locked-on tb p i (E t₁ j) x held)) d (omega arith) in
+        (λ x _. inl (locked-final tb p i (E t₁ j + x) (omega arith))) d (omega arith) in
         omega (arith, after .mine, X.executed-mono tb p js (t₁ + d) u j (omega (arith, lawful .run-high j jl))))
 
   -- demand 3, the upper bound

@@ -81,7 +81,7 @@ module _ (tb : Table) (pos : Positive tb) (p : Plan) where
     -- other rows of rank up to that of y stand above and those of greater rank below
     pub chosen-shortest : (y z q R : ℕ) → y < tb .n → z < tb .n → p .rank z ≤ p .rank y → 1 ≤ q → q ≤ cap tb z →
         Response tb (without (unplaced p (p .rank y)) z) (blocking tb p (p .rank y)) z q R → R ≤ tb .D z →
-        (blocks tb p y ≤ longer tb z q) × (blocks tb p y ≡ longer tb z q → y ≤ z)
+        (blocks tb p y ≤ longer tb z q) × (blocks tb p y ≡ longer tb z q → y ≤ z) × (y ≡ z → p .len y ≤ q)
     chosen-shortest y z q R l g h low high x within =
         let s = p .rank y in
         takes-least tb (unplaced p s) (blocking tb p s) (unplaced p s) y (p .len y) z q pos

@@ -85,5 +85,6 @@ module _ (tb : Table) (pos : Positive tb) where
       ((x q : ℕ) → Step tb U m x q → longer tb y p ≤ longer tb x q) →
       Peels tb (suc r) U m → Peels tb r (without U y) (max m (longer tb y p))
   exchange r U m y p S best =
-      peels-without r U m (max m (longer tb y p)) y (S .row) (S .mem) (omega (arith, longer-run tb y (S .high)))
+      peels-without r U m (max m (longer tb y p)) y (S .row) (S .mem)
+      (omega (arith, longer-run tb y (S .low) (S .high)))
       (λ x q s. omega (arith, best x q s))

@@ -81,7 +81,8 @@ module _ (tb : Table) (pos : Positive tb) (U : ℕ → Bool) (b : ℕ)
       ))
       (λ none. inr (λ z q l e low high f.
       let s = least-fit tb pos z l (without U z) b q low high f in
-      none (longer tb z (s .0)) (omega (arith, longer-run tb z (s .1 .holds .0), largest-ge (tb .C) (tb .n) z l))
+      none (longer tb z (s .0))
+      (omega (arith, longer-run tb z (s .1 .low) (s .1 .holds .0), largest-ge (tb .C) (tb .n) z l))
       (some-row _ z (l, e, s .0, s .1, refl))))
       (first-of (suc (largest (tb .C) (tb .n))) (λ m _.
       ⊎-elim inl (λ none. inr (λ x. none (x .0) (x .1 .holds))) (first-row m)))
@@ -113,8 +114,10 @@ module _ (tb : Table) (sound : Sound tb) (w : BusyWithin tb) where
       let s = suc r in
       let U = unplaced p s in
       let b = blocking tb p s in
-      let out : (j : ℕ) → j < tb .n → s < p .rank j → (U j ≡ false) × (p .len j ≤ cap tb j) =
-      λ j g lt. (lt-leb (p .rank j) s lt, f .takes j g lt .shortest .holds .0) in
+      let out : (j : ℕ) → j < tb .n → s < p .rank j → (U j ≡ false) × (1 ≤ p .len j) × (p .len j ≤ cap tb j) =
+      λ j g lt.
+      let placed = f .takes j g lt .shortest in
+      (lt-leb (p .rank j) s lt, placed .low, placed .holds .0) in
       let periods : (z : ℕ) → z < tb .n → U z ≡ true → (L : ℕ) × Active tb (without U z) b z L =
       λ z l e.
       let a = level-active tb (without U z) b z pos l w

@@ -98,13 +98,14 @@ module _ (tb : Table) (pos : Positive tb) (z : ℕ) (l : z < tb .n) where
 pub takes-least : (tb : Table) (U : ℕ → Bool) (b : ℕ) (tried : ℕ → Bool) (y q z l : ℕ) → Positive tb →
     Takes tb U b tried y q →
     z < tb .n → tried z ≡ true → 1 ≤ l → l ≤ cap tb z → Fits tb (without U z) b z l →
-    (longer tb y q ≤ longer tb z l) × (longer tb y q ≡ longer tb z l → y ≤ z)
+    (longer tb y q ≤ longer tb z l) × (longer tb y q ≡ longer tb z l → y ≤ z) × (y ≡ z → q ≤ l)
 takes-least tb U b tried y q z l pos t g e some most f =
     let s = least-fit tb pos z g (without U z) b l some most f in
     let le = t .least z (s .0) g e (s .1) in
     let up = longer-mono tb z (s .2) in (
       omega arith,
       λ same. by-le y z (λ h. h) (λ h. absurd (t .earliest z (s .0) h e (s .1) (omega arith))),
+      λ same. t .shortest .least l some (rw same (most, f)),
     )
 
 -- one row at most takes a rank, with one length

@@ -1,4 +1,5 @@
--- How the plan is chosen: document 01, the section of that name.
+-- How the plan is chosen: document 01, the section of that name; by what, where a row has two regions: request (ii) of
+-- document 02.
 use Prim.Native.Nat.{ℕ, _≤_, _<_}
 use mathlib.Core.Path.{_≡_}
 use mathlib.Core.Bool.{Bool, true}
@@ -30,8 +31,8 @@ module _ (tb : Table) (U : ℕ → Bool) (b : ℕ) where
 
   -- of the rows that are tried
   module _ (tried : ℕ → Bool) where
-    -- "takes the rank": row y does, with the length q; q is its shortest passing length, no row that is tried blocks
-    -- with less at its own, and none that stands earlier in the table with as much
+    -- (ii), "the least such longer region": row y takes the rank, with the length q; q is its shortest passing length,
+    -- no row that is tried blocks with less at its own, and none that stands earlier in the table with as much
     pub record Takes (y q : ℕ) : Type 0 where
       pub row : y < tb .n
       pub try : tried y ≡ true

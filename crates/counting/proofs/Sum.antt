@@ -69,6 +69,12 @@ pub given-sub : (a b : Bool) (x : ℕ) → (a ≡ true → b ≡ true) → given
 given-sub true b x h = rw (h refl) (omega arith)
 given-sub false b x h = omega arith
 
+pub largest-ext : (f g : ℕ → ℕ) (n : ℕ) → ((j : ℕ) → j < n → f j ≡ g j) → largest f n ≡ largest g n
+largest-ext f g n same =
+    let up = largest-le f n (largest g n) (λ j l. omega (arith, same j l, largest-ge g n j l)) in
+    let down = largest-le g n (largest f n) (λ j l. omega (arith, same j l, largest-ge f n j l)) in
+    omega arith
+
 pub largest-cases {ℓ} : {X : Type ℓ} (f : ℕ → ℕ) (n : ℕ) → (largest f n ≡ 0 → X) →
     ((j : ℕ) → j < n → largest f n ≡ f j → X) → X
 unfolding largest

@@ -1,4 +1,4 @@
--- Any two results that the promise of a function of this crate allows are equal; `held` promises an equation.
+-- Any two results that the promise of a function of this crate allows are equal.
 use Prim.Native.Nat.{ℕ, _<_}
 use mathlib.Core.Path.{_≡_, sym, _∙_}
 use mathlib.Core.Logic.{⊎-elim}
@@ -10,7 +10,8 @@ use Rattle.counting.proofs.Cases.{by-le, not-both}
 use Rattle.tables.specs.Table.{Table}
 use Rattle.tables.specs.Plan.{Plan, WellFormed}
 use Rattle.tables.specs.Jobs.{Jobs}
-use Rattle.decision.specs.inside.Decision.{Following, Heads, Released, ByRank, Foremost, Stretch}
+use Rattle.decision.specs.inside.Decision.{Following, Heads, Released, ByRank, Foremost, HeldTo}
+use Rattle.decision.specs.inside.Decision.{Stretch}
 
 -- of a kind of numbers none of which stands below another there is one at most
 one-at-most : {E : ℕ → Type 0} → ((a b : ℕ) → E a → E b → a < b → ⊥) → (a b : ℕ) → E a → E b → a ≡ b
@@ -43,6 +44,11 @@ pub foremost-unique : (order heads : List ℕ) (n next r s : ℕ) →
     Foremost order heads n next r → Foremost order heads n next s → r ≡ s
 foremost-unique order heads n next =
     one-at-most (λ r s a b h. omega (arith, b .high, a .waits (omega (arith, b .high)), b .none r h))
+
+pub held-to-unique : (tb : Table) (p : Plan) (i e run c d : ℕ) → HeldTo tb p i e run c → HeldTo tb p i e run d → c ≡ d
+held-to-unique tb p i e run =
+    one-at-most (λ c d a b h.
+    ⊎-elim (λ q. omega (arith, b .high)) (λ q. not-both _ q (b .held c (a .low) h)) (a .ends))
 
 pub stretch-unique : (tb : Table) (p : Plan) (js : Jobs) (i e run next t c d : ℕ) →
     Stretch tb p js i e run next t c → Stretch tb p js i e run next t d → c ≡ d

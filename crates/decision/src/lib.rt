@@ -5,8 +5,8 @@ ghost use lib.ListN.{getD};
 ghost use Rattle.tables.specs.Table.{tableOf, most, most-rows};
 ghost use Rattle.tables.specs.Plan.{planOf};
 ghost use Rattle.tables.specs.Jobs.{jobsOf};
-ghost use Rattle.kernel.specs.Rule.{locked};
-ghost use Rattle.decision.specs.inside.Decision.{Following, Heads, Released, ByRank, Foremost, Stretch, Ruled};
+ghost use Rattle.decision.specs.inside.Decision.{Following, Heads, Released, ByRank, Foremost, HeldTo, Stretch};
+ghost use Rattle.decision.specs.inside.Decision.{Ruled};
 use tables::JOB_WIDTH;
 use tables::PLAN_WIDTH;
 use tables::ROW_WIDTH;
@@ -57,12 +57,28 @@ pub fn released(jobs: &[u32], from: usize, t: u32) -> usize
     k
 }
 
-// Whether a job of row i that has executed e ticks runs on.
-fn held(table: &[u32], plan: &[u32], i: usize, e: u32) -> bool
-    requires { ⌜ Ruled (now table) (now plan) × (i < tableOf (now table) .n) × (e ≤ most) ⌝ }
-    ensures { λ r. ⌜ r ≡ locked (tableOf (now (table .entry))) (planOf (now (plan .entry))) i e ⌝ }
+// The ticks that a job of row i has executed once it is not locked, or its whole run where it is locked to its end: of
+// its run e ticks are executed. Its middle region ends inside the job, its final one with it.
+fn held_to(table: &[u32], plan: &[u32], i: usize, e: u32, run: u32) -> u32
+    requires { ⌜ Ruled (now table) (now plan) × (i < tableOf (now table) .n) × (e < run) × (run ≤ most) ⌝ }
+    ensures { λ r. ⌜ HeldTo (tableOf (now (table .entry))) (planOf (now (plan .entry))) i e run r ⌝ }
 {
-    table[ROW_WIDTH * i] < e + plan[PLAN_WIDTH * i + 1]
+    let at = ROW_WIDTH * i;
+    if table[at] < e + plan[PLAN_WIDTH * i + 1] {
+        return run;
+    }
+    let start = table[at + 3];
+    let end = start + table[at + 4];
+    if e <= start {
+        return e;
+    }
+    if end <= e {
+        return e;
+    }
+    if run < end {
+        return run;
+    }
+    end
 }
 
 // The rows by rank: the row of rank r at place r − 1, and 0 past the rows.
@@ -98,7 +114,7 @@ pub fn foremost(order: &[usize; 32], heads: &[usize; 32], n: usize, next: usize)
 }
 
 // How far one decision runs a job of row i that has executed e ticks and is not locked: to its end or to the next
-// release, whichever comes first; where it is locked at that release, on to its end.
+// release, whichever comes first; where it is locked at that release, on to the end of its region.
 pub fn stretch(
     table: &[u32],
     plan: &[u32],
@@ -122,8 +138,5 @@ pub fn stretch(
     if left <= until {
         return left;
     }
-    if held(table, plan, i, e + until) {
-        return left;
-    }
-    until
+    held_to(table, plan, i, e + until, run) - e
 }

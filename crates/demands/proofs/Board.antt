@@ -183,7 +183,7 @@ printed-within-the-sheet text page planned p rows e tick tasks sheet i t at =
     let ticks : responseIn planned i ≤ t .D / tick =
     omega (arith, row i l .in-time, row-at tick tasks i t at 1 (omega arith)) in
     let low = sheet .formed .tick-within .low in
-    let kept = neither-grows tick t (up (t .C) tick) (t .D / tick) (t .T / tick) low refl in
+    let kept = neither-grows tick t (up (t .C) tick) (t .D / tick) (t .T / tick) _ low refl in
     omega (arith, mul-le-mul-right tick ticks, kept .1 .not-above)
 
 -- a refusal's number is that of one of its checks, and the page tells it

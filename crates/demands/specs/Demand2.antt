@@ -54,14 +54,15 @@ RefusedExactlyIfNonePasses =
 -- "the shortest region that passes": a given plan is well formed and passes and, for the rank held by row y, any
 -- row z of that or a higher rank and any length of z: where the response of z with that length, the other rows of
 -- these ranks above it and the rows of lower rank below it, is at most the deadline of z, y blocks with no more than
--- z would with that length, and where with as much y is not later in the table
+-- z would with that length, and where with as much y is not later in the table; and where z is y, that length is no
+-- shorter than its own
 pub record Given (tb : Table) (p : Plan) : Type 0 where
   pub well-formed : WellFormed tb p
   pub passes : Passes tb p
   pub shortest :
       (y z q R : ℕ) → y < tb .n → z < tb .n → p .rank z ≤ p .rank y → 1 ≤ q → q ≤ cap tb z →
       Response tb (without (unplaced p (p .rank y)) z) (blocking tb p (p .rank y)) z q R → R ≤ tb .D z →
-      (blocks tb p y ≤ longer tb z q) × (blocks tb p y ≡ longer tb z q → y ≤ z)
+      (blocks tb p y ≤ longer tb z q) × (blocks tb p y ≡ longer tb z q → y ≤ z) × (y ≡ z → p .len y ≤ q)
 
 abbrev pub ShortestAtEachRank : Type 0
 ShortestAtEachRank =

@@ -1,5 +1,5 @@
-// The figures of document 01 and of request (i) of document 02, run: each as it stands there, with the answer that the
-// library gives.
+// The figures of document 01 and of the requests of document 02, run: each as it stands there, with the answer that the
+// library gives. A row of document 01 has no middle region.
 ghost use Prim.Native.Nat.{_≤_};
 use tables::JOB_WIDTH;
 use tables::MOST_ROWS;
@@ -9,28 +9,79 @@ use tables::Said;
 use tables::TIMES_WIDTH;
 
 fn main() {
-    planned(&[1, 1, 1]);
-    planned(&[2, 5, 5, 4, 7, 7]);
-    planned(&[2, 5, 5, 4, 6, 7]);
-    planned(&[2, 5, 5, 4, 5, 7]);
-    planned(&[1, 4, 4, 1, 6, 6, 4, 12, 12]);
-    timed(&[1, 4, 4, 1, 6, 6, 4, 12, 12], &[1, 1, 2, 1, 3, 3]);
-    timed(&[1, 4, 4, 1, 6, 6, 4, 12, 12], &[1, 1, 2, 1, 3, 4]);
-    timed(&[1, 4, 4, 1, 6, 6, 4, 12, 12], &[1, 1, 2, 1, 3, 1]);
-    planned(&[2, 3, 3, 2, 3, 3]);
-    planned(&[5, 4, 9]);
-    played(&[2, 5, 5, 4, 7, 7], &[1, 1, 2, 2], &[1, 0, 4, 0, 3, 2]);
-    played(&[2, 5, 5, 4, 7, 7], &[1, 1, 2, 2], &[1, 0, 4, 0, 2, 2]);
-    played(&[2, 5, 5, 4, 7, 7], &[1, 1, 2, 2], &[1, 0, 3, 0, 3, 2]);
-    planned(&[500000, 1000000, 1000000, 500000, 1000000, 1000000]);
-    planned(&[500000, 1000000, 1000000, 500001, 1000000, 1000000]);
-    planned(&[0, 1, 1]);
-    planned(&[1, 1000001, 1]);
+    planned(&[1, 1, 1, 0, 0]);
+    planned(&[2, 5, 5, 0, 0, 4, 7, 7, 0, 0]);
+    planned(&[2, 5, 5, 0, 0, 4, 6, 7, 0, 0]);
+    planned(&[2, 5, 5, 0, 0, 4, 5, 7, 0, 0]);
+    planned(&[1, 4, 4, 0, 0, 1, 6, 6, 0, 0, 4, 12, 12, 0, 0]);
+    timed(
+        &[1, 4, 4, 0, 0, 1, 6, 6, 0, 0, 4, 12, 12, 0, 0],
+        &[1, 1, 2, 1, 3, 3],
+    );
+    timed(
+        &[1, 4, 4, 0, 0, 1, 6, 6, 0, 0, 4, 12, 12, 0, 0],
+        &[1, 1, 2, 1, 3, 4],
+    );
+    timed(
+        &[1, 4, 4, 0, 0, 1, 6, 6, 0, 0, 4, 12, 12, 0, 0],
+        &[1, 1, 2, 1, 3, 1],
+    );
+    planned(&[2, 3, 3, 0, 0, 2, 3, 3, 0, 0]);
+    planned(&[5, 4, 9, 0, 0]);
+    played(
+        &[2, 5, 5, 0, 0, 4, 7, 7, 0, 0],
+        &[1, 1, 2, 2],
+        &[1, 0, 4, 0, 3, 2],
+    );
+    played(
+        &[2, 5, 5, 0, 0, 4, 7, 7, 0, 0],
+        &[1, 1, 2, 2],
+        &[1, 0, 4, 0, 2, 2],
+    );
+    played(
+        &[2, 5, 5, 0, 0, 4, 7, 7, 0, 0],
+        &[1, 1, 2, 2],
+        &[1, 0, 3, 0, 3, 2],
+    );
+    planned(
+        &[
+            500000,
+            1000000,
+            1000000,
+            0,
+            0,
+            500000,
+            1000000,
+            1000000,
+            0,
+            0,
+        ],
+    );
+    planned(
+        &[
+            500000,
+            1000000,
+            1000000,
+            0,
+            0,
+            500001,
+            1000000,
+            1000000,
+            0,
+            0,
+        ],
+    );
+    planned(&[0, 1, 1, 0, 0]);
+    planned(&[1, 1000001, 1, 0, 0]);
     read(b"");
     read(b"tick 5\n");
-    played(&[2, 5, 5, 4, 7, 7], &[1, 1, 2, 2], &[]);
+    played(&[2, 5, 5, 0, 0, 4, 7, 7, 0, 0], &[1, 1, 2, 2], &[]);
     printed(b"tick 10\ntask 20 50 50\ntask 40 70 70\n");
     rounded();
+    with_regions();
+    played_regions();
+    refused_regions();
+    sheet_regions();
 }
 
 // Times that lie between two ticks.
@@ -38,12 +89,106 @@ fn rounded() {
     read(b"tick 7\ntask 7 20 20\n");
     read(b"tick 7\ntask 8 20 27\n");
     read(b"tick 7\ntask 20 20 20\n");
-    planned(&[3, 2, 2]);
+    planned(&[3, 2, 2, 0, 0]);
     read(b"tick 7\ntask 7 6 20\n");
     read(b"tick 7\ntask 7 20 6\n");
     printed(b"tick 10\ntask 20 59 59\ntask 40 79 79\n");
     printed(b"tick 10\ntask 20 59 59\ntask 40 69 79\n");
     printed(b"tick 10\ntask 20 59 59\ntask 40 70 69\n");
+}
+
+// Rows with a middle region, planned and timed.
+fn with_regions() {
+    planned(&[3, 4, 4, 0, 2, 1, 4, 4, 0, 0]);
+    planned(&[2, 5, 8, 0, 0, 3, 5, 4, 0, 2]);
+    planned(&[1, 2, 5, 0, 0, 4, 5, 5, 0, 2]);
+    planned(&[3, 4, 4, 0, 2, 1, 2, 4, 0, 0]);
+    planned(&[3, 4, 5, 0, 1, 1, 2, 3, 0, 0]);
+    planned(&[2, 3, 3, 0, 1, 1, 2, 3, 0, 0]);
+    planned(&[1, 2, 3, 0, 0, 3, 6, 5, 0, 2]);
+    planned(&[2, 5, 4, 0, 1, 3, 5, 6, 0, 0]);
+    planned(&[1, 1, 4, 0, 0, 3, 4, 4, 0, 2]);
+    planned(&[2, 5, 5, 0, 0, 4, 7, 7, 0, 2]);
+    planned(&[2, 5, 5, 0, 0, 4, 7, 7, 0, 3]);
+    timed(&[5, 20, 20, 1, 3, 1, 9, 9, 0, 0], &[2, 1, 1, 1]);
+    timed(&[5, 20, 20, 1, 2, 1, 9, 9, 0, 0], &[2, 1, 1, 1]);
+    timed(&[5, 20, 20, 1, 2, 1, 9, 9, 0, 0], &[2, 2, 1, 1]);
+    timed(&[5, 20, 20, 1, 2, 1, 9, 9, 0, 0], &[2, 3, 1, 1]);
+}
+
+// Releases before, inside and at the end of a middle region.
+fn played_regions() {
+    played(
+        &[5, 20, 20, 1, 3, 1, 9, 9, 0, 0],
+        &[2, 1, 1, 1],
+        &[0, 0, 5, 1, 1, 1],
+    );
+    played(
+        &[5, 20, 20, 1, 3, 1, 9, 9, 0, 0],
+        &[2, 1, 1, 1],
+        &[0, 0, 5, 1, 2, 1],
+    );
+    played(
+        &[5, 20, 20, 1, 3, 1, 9, 9, 0, 0],
+        &[2, 1, 1, 1],
+        &[0, 0, 5, 1, 3, 1],
+    );
+    played(
+        &[5, 20, 20, 1, 3, 1, 9, 9, 0, 0],
+        &[2, 1, 1, 1],
+        &[0, 0, 5, 1, 4, 1],
+    );
+    played(
+        &[5, 20, 20, 1, 3, 1, 9, 9, 0, 0],
+        &[2, 1, 1, 1],
+        &[0, 0, 3, 1, 2, 1],
+    );
+    played(
+        &[5, 20, 20, 0, 3, 1, 9, 9, 0, 0],
+        &[2, 2, 1, 1],
+        &[0, 0, 5, 1, 3, 1],
+    );
+    played(
+        &[5, 20, 20, 0, 3, 1, 9, 9, 0, 0],
+        &[2, 2, 1, 1],
+        &[0, 0, 5, 1, 4, 1],
+    );
+}
+
+// Regions that a table may not have, beside one that it may.
+fn refused_regions() {
+    planned(&[3, 9, 9, 0, 3]);
+    planned(&[3, 9, 9, 1, 0]);
+    planned(&[3, 9, 0, 1, 0]);
+    planned(&[3, 9, 9, 0, 3, 0, 9, 9, 0, 0]);
+    planned(&[3, 9, 9, 0, 2, 0, 9, 9, 0, 0]);
+    planned(&[3, 9, 9, 4294967295, 4294967295]);
+    planned(&[1, 9, 9, 0, 1]);
+    planned(&[1000000, 1000000, 1000000, 999998, 1]);
+    planned(&[1000000, 1000000, 1000000, 999999, 1]);
+    planned(&[3, 9, 9, 0, 2, 3]);
+    planned(&[2, 5, 5, 4, 7, 7, 1, 4, 4]);
+}
+
+// Sheets with a middle region, and without its length.
+fn sheet_regions() {
+    read(b"tick 10\ntask 60 200 200\n");
+    read(b"tick 10\ntask 60 200 200 5 12\n");
+    read(b"tick 10\ntask 60 200 200 19 2\n");
+    read(b"tick 10\ntask 60 200 200 9 2\n");
+    read(b"tick 10\ntask 60 200 200 10 10\n");
+    read(b"tick 10\ntask 60 200 200 30 20\n");
+    read(b"tick 10\ntask 60 200 200 30 21\n");
+    read(b"tick 10\ntask 60 200 200 0 1\n");
+    read(b"tick 10\ntask 50 200 200 30 20\n");
+    read(b"tick 10\ntask 60 200 200 0 0\n");
+    read(b"tick 10\ntask 60 200 200 00 1\n");
+    read(b"tick 10\ntask 60 200 200 0\n");
+    read(b"tick 10\ntask 60 200 200 \n");
+    read(b"tick 10\ntask 60 200 200 0 1 1\n");
+    read(b"tick 10\ntask 60 200 200 1000000001 1\n");
+    printed(b"tick 10\ntask 30 40 40 0 20\ntask 10 40 40\n");
+    printed(b"tick 10\ntask 30 40 40\ntask 10 40 40\n");
 }
 
 // A task table to its planned table.

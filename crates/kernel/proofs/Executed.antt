@@ -5,7 +5,7 @@ use mathlib.Core.Bool.{Bool, true, false}
 use native.Mathlib.Omega.{arith}
 use native.Mathlib.Nat.{add-suc, add-zero}
 use lib.Dec.{eqb}
-use borrow.Author.Tests.{le-ltb, eq-eqb, ne-eqb}
+use borrow.Author.Tests.{eq-eqb, ne-eqb}
 use Rattle.counting.specs.Sum.{given, sum}
 use Rattle.counting.proofs.Cases.{by-le, by-eq, not-both}
 use Rattle.counting.proofs.Sum.{sum-ext, sum-add, sum-delta}
@@ -14,6 +14,7 @@ use Rattle.tables.specs.Plan.{Plan, WellFormed}
 use Rattle.tables.specs.Jobs.{Jobs, Lawful}
 use Rattle.tables.proofs.Plan.{cap-run}
 use Rattle.kernel.specs.Rule.{Pick, job, idle, picked, locked, pick, executed}
+use Rattle.kernel.proofs.Locked.{not-locked}
 use Rattle.kernel.proofs.Rule as R
 
 is-job {ℓ} : {X : Type ℓ} (c : Pick) (k : ℕ) → (c ≡ job k → X) → ((c ≡ job k → ⊥) → X) → X
@@ -29,7 +30,8 @@ abbrev pub Fresh : Table → Plan → Jobs → Type 0
 Fresh tb p js = (k : ℕ) → k < js .N → locked tb p (js .row k) 0 ≡ false
 
 pub fresh-row : (tb : Table) (p : Plan) → WellFormed tb p → (i : ℕ) → i < tb .n → locked tb p i 0 ≡ false
-fresh-row tb p wf i l = le-ltb (tb .C i) (0 + p .len i) (omega (arith, cap-run tb i (wf .len-high i l)))
+fresh-row tb p wf i l =
+    not-locked tb p i 0 (omega (arith, cap-run tb i (wf .len-high i l))) (λ h. absurd (omega arith))
 
 pub fresh : (tb : Table) (p : Plan) (js : Jobs) → WellFormed tb p → Lawful tb js → Fresh tb p js
 fresh tb p js wf lawful k l = fresh-row tb p wf (js .row k) (lawful .row k l)

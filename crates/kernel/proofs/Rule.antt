@@ -53,7 +53,7 @@ by-least P f (suc n) none some =
     (λ j g r. by-eq j n (λ z. not-both (P j) (ap P z ∙ e) r) (λ z. low j (omega arith) r))))
 
 module _ (tb : Table) (p : Plan) (js : Jobs) (x : ℕ → ℕ) where
-  -- (a) job k is unfinished and has executed a tick of its final region at least
+  -- (a) job k is unfinished and inside one of its regions
   pub record RunsOn (k : ℕ) : Type 0 where
     pub left : x k < js .run k
     pub held : locked tb p (js .row k) (x k) ≡ true
@@ -78,7 +78,7 @@ module _ (tb : Table) (p : Plan) (js : Jobs) (x : ℕ → ℕ) where
   pub pending-to : (t k : ℕ) → Pending t k → pending tb p js x t k ≡ true
   pending-to t k h = and-both _ _ (le-leb _ _ (h .since)) (lt-ltb _ _ (h .left))
 
-  -- no unfinished job has executed more than C − length ticks: the "otherwise" of (b) and (c)
+  -- no unfinished job is inside one of its regions: the "otherwise" of (b) and (c)
   abbrev pub Free : Type 0
   Free = (k : ℕ) → k < js .N → RunsOn k → ⊥
 

@@ -6,7 +6,6 @@ use mathlib.Core.Bool.{true, false}
 use mathlib.Core.Logic.{_⊎_, ⊎-elim}
 use native.Mathlib.Omega.{arith}
 use native.Mathlib.Nat.{add-suc, add-zero}
-use borrow.Author.Tests.{ltb-true, ltb-false}
 use Rattle.counting.proofs.Cases.{by-bool, by-eq, not-both}
 use Rattle.tables.specs.Table.{Table, Sound}
 use Rattle.tables.specs.Plan.{Plan, WellFormed}
@@ -14,10 +13,6 @@ use Rattle.tables.specs.Jobs.{Jobs, Lawful}
 use Rattle.kernel.specs.Rule.{job, locked}
 use Rattle.kernel.proofs.Rule as R
 use Rattle.kernel.proofs.Executed as X
-
--- a region ends with the job: a locked job stays locked
-pub locked-on : (tb : Table) (p : Plan) (i e d : ℕ) → locked tb p i e ≡ true → locked tb p i (e + d) ≡ true
-locked-on tb p i e d h = by-bool (locked tb p i (e + d)) (λ g. g) (λ g. absurd (omega (arith, ltb-true, ltb-false)))
 
 -- nothing is released in the ticks t + 1, .., t + x
 abbrev pub Calm : Jobs → ℕ → ℕ → Type 0

@@ -1,10 +1,11 @@
--- The dispatch rule of the kernel, tick by tick: document 01, the section of that name.
+-- The dispatch rule of the kernel, tick by tick: document 01, the section of that name; the second reason for which a
+-- job runs on: request (ii) of document 02.
 use Prim.Native.Nat.{ℕ, zero, suc, _+_, _<_}
 use mathlib.Core.Path.{_≡_}
 use mathlib.Core.Bool.{Bool, true, false, _&&_, _||_}
 use lib.Dec.{leb, ltb, eqb}
 use Rattle.counting.specs.Sum.{given, count}
-use Rattle.tables.specs.Table.{Table}
+use Rattle.tables.specs.Table.{Table, region-end}
 use Rattle.tables.specs.Plan.{Plan}
 use Rattle.tables.specs.Jobs.{Jobs}
 
@@ -25,10 +26,11 @@ unfoldable pub one-of : (ℕ → Bool) → ℕ → Pick → Pick
 one-of P zero other = other
 one-of P (suc k) other = elim (P k) [ true ↦ job k | false ↦ one-of P k other ]
 
--- "more than C − length": a job of row i that has executed e ticks has executed one of its final region at least,
--- and is not preempted; the difference is written as a sum
+-- "more than C − length": a job of row i that has executed e ticks has executed one of its final region at least, the
+-- difference written as a sum; or (ii), "more than the start and less than the end", it has begun its middle region and
+-- not ended it. Either way it is not preempted.
 abbrev pub locked : Table → Plan → ℕ → ℕ → Bool
-locked tb p i e = ltb (tb .C i) (e + p .len i)
+locked tb p i e = ltb (tb .C i) (e + p .len i) || (ltb (tb .S i) e && ltb e (region-end tb i))
 
 -- Job k has executed x k ticks.
 module _ (tb : Table) (p : Plan) (js : Jobs) (x : ℕ → ℕ) where
@@ -36,7 +38,7 @@ module _ (tb : Table) (p : Plan) (js : Jobs) (x : ℕ → ℕ) where
   abbrev pub unfinished : ℕ → Bool
   unfinished k = ltb (x k) (js .run k)
 
-  -- (a) "runs on": a job that is unfinished, and has executed a tick of its final region at least
+  -- (a) "runs on": a job that is unfinished, and inside one of its regions
   abbrev pub runs-on : ℕ → Bool
   runs-on k = unfinished k && locked tb p (js .row k) (x k)
 

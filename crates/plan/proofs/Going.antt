@@ -15,8 +15,7 @@ use Rattle.counting.proofs.Sum.{without-elim, without-other, count-le}
 use Rattle.marks.specs.inside.Marks.{marked, Whole, Less}
 use Rattle.marks.proofs.Marks.{none, count-less, count-nothing, whole-count}
 use Rattle.tables.specs.Table.{Table, Sound, most-rows}
-use Rattle.tables.specs.Plan.{Plan, planOf, plan-width, cap}
-use Rattle.tables.proofs.Plan.{longer-is}
+use Rattle.tables.specs.Plan.{Plan, planOf, plan-width, cap, longer}
 use Rattle.test.specs.Test.{before, load, busy-side, Response, longest, blocking}
 use Rattle.test.proofs.Load.{Positive}
 use Rattle.test.proofs.Plans.{room, blocking-is, longest-cases}
@@ -88,10 +87,13 @@ module _ (tb : Table) where
 
     pub going-room : (t : ℕ) → 1 ≤ t → b + load before tb (marked rest) t ≤ busy-side tb t
     going-room t h =
-        let out : (j : ℕ) → j < tb .n → rank rest < p .rank j → (marked rest j ≡ false) × (p .len j ≤ cap tb j) =
-        λ j l lt. (
+        let out : (j : ℕ) → j < tb .n → rank rest < p .rank j →
+        (marked rest j ≡ false) × (1 ≤ p .len j) × (p .len j ≤ cap tb j) =
+        λ j l lt.
+        let placed = g .filled .takes j l lt .shortest in (
           by-bool (marked rest j) (λ e. absurd (omega (arith, g .free j e))) (λ e. e),
-          g .filled .takes j l lt .shortest .holds .0,
+          placed .low,
+          placed .holds .0,
         ) in
         omega (arith, g .blocks, room tb p (rank rest) (marked rest) pos out t h)
 
@@ -185,8 +187,9 @@ module _ (tb : Table) where
           let o = placed-y .others j l ne in
           timed-at p′ (alike (p .rank j) (omega (arith, g .placed j l m, one-less))) (o .0) (o .1) r
 
-      pub going-more : Going (put plan y (rank rest) q) (set times y R) left (max b (q - 1))
-      going-more =
+      pub going-more : {m : ℕ} → m ≡ longer tb y q →
+          Going (put plan y (rank rest) q) (set times y R) left (max b (m - 1))
+      going-more longest =
           record {
             long = put-length plan y (rank rest) q ∙ g .long;
             whole = simp length-set (g .whole);
@@ -200,7 +203,7 @@ module _ (tb : Table) where
             filled = filled-placed tb pos p p′ (rank left) y q filled-before none-there takes-y placed-y;
             blocks =
                 let h = blocking-placed tb pos p p′ (rank left) y q filled-before none-there takes-y placed-y in
-                omega (arith, g .blocks, ap (blocking tb p) one-less, longer-is tb y q);
+                omega (arith, g .blocks, ap (blocking tb p) one-less);
             timed =
                 λ j l e.
                 by-eq j y

@@ -45,7 +45,7 @@ pub fn fill(rows: [Row; 32], n: usize, asks: &[u64], busy: u32) -> Filling
             blocking,
             runs,
         );
-        let Pick::Taken(row, len, response) = pick else {
+        let Pick::Taken(row, len, longest, response) = pick else {
             return Filling {
                 stopped: rank,
                 plan: [0u32; PLAN_WIDTH * MOST_ROWS],
@@ -58,7 +58,7 @@ pub fn fill(rows: [Row; 32], n: usize, asks: &[u64], busy: u32) -> Filling
         plan[at + 1] = len;
         times[i] = response;
         runs -= asks[ASK_WIDTH * i] as u32;
-        blocking = counting::larger(blocking, len - 1);
+        blocking = counting::larger(blocking, longest - 1);
         unplaced = marks::less(unplaced, row);
     }
     Filling {

@@ -1,11 +1,11 @@
 // The operation play: the kernel's rule, answered from decision to decision.
-ghost use mathlib.Core.Path.{_≡_};
-ghost use Prim.Native.Nat.{_*_, _≤_};
+ghost use Prim.Native.Nat.{_≤_};
 ghost use lib.ListN.{length};
-ghost use Rattle.tables.specs.Table.{Sound, tableOf, row-width};
+ghost use Rattle.tables.specs.Table.{tableOf};
 ghost use Rattle.tables.specs.Plan.{planOf};
 ghost use Rattle.tables.specs.Jobs.{jobsOf, WellFormedJobs};
 ghost use Rattle.tables.specs.Answer.{resultOf};
+ghost use Rattle.tables.specs.inside.Rows.{SoundSlice};
 ghost use Rattle.kernel.specs.Answers.{PlayGiven, PlayAnswer};
 ghost use Rattle.decision.specs.inside.Decision.{Ruled};
 ghost use Rattle.play.specs.inside.Rest.{PlayRest};
@@ -60,11 +60,12 @@ fn finish_all(table: &[u32], plan: &[u32], jobs: &[u32], out: &mut [u32])
 }
 
 // The checks of the plan, the job list and the output, in their order, then the finish ticks.
-fn play_sound(table: &[u32], n: usize, plan: &[u32], jobs: &[u32], out: &mut [u32]) -> Answer
-    requires { ⌜ Sound (tableOf (now table)) × (length (now table) ≡ row-width * n) ⌝ }
+fn play_sound(table: &[u32], plan: &[u32], jobs: &[u32], out: &mut [u32]) -> Answer
+    requires { ⌜ SoundSlice (now table) ⌝ }
     ensures { λ r. ⌜ PlayRest (now (plan .entry)) (now (jobs .entry)) (now (out .entry)) (tableOf (now (table .entry)))
         (resultOf r (now (out .exit))) ⌝ }
 {
+    let n = table.len() / ROW_WIDTH;
     let form = tables::check_plan(tables::rows_of(table, n), n, plan);
     if let PlanCheck::AtFault(at) = form {
         return Answer::Plan(at);
@@ -92,6 +93,6 @@ pub fn play(table: &[u32], plan: &[u32], jobs: &[u32], out: &mut [u32]) -> Answe
     match checked {
         TableCheck::Shape => Answer::Shape,
         TableCheck::Range(at) => Answer::Range(at),
-        TableCheck::Sound(n) => play_sound(table, n, plan, jobs, out),
+        TableCheck::Sound(_) => play_sound(table, plan, jobs, out),
     }
 }

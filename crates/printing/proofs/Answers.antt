@@ -8,6 +8,7 @@ use native.Mathlib.Omega.{arith}
 use lib.ListN.{length, take}
 use lib.Seq.{take-append-seam}
 use Rattle.counting.proofs.Cases.{by-le, by-eq}
+use Rattle.tables.specs.Planned.{planned-width}
 use Rattle.tables.specs.Refusal.{Check, Clear, Result, bare, Granted, Answered}
 use Rattle.tables.specs.Checks.{planned-shape}
 use Rattle.printing.specs.Printed.{planText}
@@ -90,7 +91,7 @@ room-in-place : (needed len : ℕ) → OnePlace (room-in needed len)
 room-in-place needed len a b h g = h .0 ∙ sym (g .0)
 
 fit-places : (planned : List ℕ) (len : ℕ) → OnePlaces (fit-checks planned len)
-fit-places planned len = (shape-place planned, (room-in-place (length (planText planned)) len, tt))
+fit-places planned len = (shape-place planned-width planned, (room-in-place (length (planText planned)) len, tt))
 
 pub fit-unique : (planned : List ℕ) (len : ℕ) (r s : Result) → FitAnswer planned len r → FitAnswer planned len s → r ≡ s
 fit-unique planned len r s =

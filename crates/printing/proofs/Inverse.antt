@@ -20,7 +20,7 @@ field : (w : List ℕ) (end v u : ℕ) (x y : List ℕ) → end < nought →
     w ++ (decimal v ++ (end ∷ x)) ≡ w ++ (decimal u ++ (end ∷ y)) → (v ≡ u) × (x ≡ y)
 field w end v u x y h e =
     let f = cancel w e in
-    let q = decimal-tells end h v u x y f in (q, cancel (end ∷ []) (cancel (decimal u) (rw q at f)))
+    let q = decimal-tells end end h h v u x y f .0 in (q, cancel (end ∷ []) (cancel (decimal u) (rw q at f)))
 
 -- the numbers of a row line, each with what follows it
 abbrev from-response : ℕ → List ℕ → List ℕ

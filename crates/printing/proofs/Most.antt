@@ -40,7 +40,7 @@ module _ (planned : List ℕ) (small : (i : ℕ) → getD planned i 0 < 2 ^ 32) 
       (1 ≤ r .value) × (r .value ≤ longest-text)
   fit-most a z =
       let g = fit-given planned [] a z in
-      (omega (arith, never-empty planned), omega (arith, text-most (rows-of-shape planned (g .0))))
+      (omega (arith, never-empty planned), omega (arith, text-most (rows-of-shape planned-width planned (g .0))))
 
   pub print-most : {out : List ℕ} {r : Result} → PrintAnswer planned out r → r .number ≡ 0 →
       (1 ≤ r .value) × (r .value ≤ longest-text)

@@ -41,11 +41,12 @@ word-unique w s at (word.Past m) (word.Stuck place) p q = absurd (passed-or-stuc
 word-unique w s at (word.Stuck place) (word.Past n) p q = absurd (passed-or-stuck q p)
 word-unique w s at (word.Stuck a) (word.Stuck b) p q = ap word.Stuck (stuck-unique p q)
 
-pub number-unique : (most end : ℕ) → end < nought → (s : List ℕ) (at : ℕ) (a b : NumberRead) →
-    ReadsNumber most end s at a → ReadsNumber most end s at b → a ≡ b
-number-unique most end other s at (number.Past v m) (number.Past w n) p q =
-    let e = passed-unique (code-number end other most) p q in
-    λ i. number.Past (e .0 i) (record { at = e .1 i })
-number-unique most end other s at (number.Past v m) (number.Stuck _) p q = absurd (passed-or-stuck p q)
-number-unique most end other s at (number.Stuck _) (number.Past w n) p q = absurd (passed-or-stuck q p)
-number-unique most end other s at (number.Stuck a) (number.Stuck b) p q = ap number.Stuck (stuck-unique p q)
+pub number-unique : (least most end other : ℕ) → end < nought → other < nought → (s : List ℕ) (at : ℕ)
+    (a b : NumberRead) → ReadsNumber least most end other s at a → ReadsNumber least most end other s at b → a ≡ b
+number-unique least most end other l m s at (number.Past v d _) (number.Past w e _) p q =
+    let h = passed-unique (code-number least most end other l m) p q in
+    λ i. number.Past (h .0 i .0) (h .0 i .1) (record { at = h .1 i })
+number-unique least most end other l m s at (number.Past v d _) (number.Stuck _) p q = absurd (passed-or-stuck p q)
+number-unique least most end other l m s at (number.Stuck _) (number.Past w e _) p q = absurd (passed-or-stuck q p)
+number-unique least most end other l m s at (number.Stuck _) (number.Stuck _) p q =
+    ap number.Stuck (stuck-unique p q)

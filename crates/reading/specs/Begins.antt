@@ -7,7 +7,7 @@ use mathlib.Core.List.{List, _++_}
 abbrev pub Begins : List ℕ → List ℕ → Type 0
 Begins p s = (rest : List ℕ) × (p ++ rest ≡ s)
 
--- a number from 1 to the most that is allowed, both included
-pub record Between (most x : ℕ) : Type 0 where
-  pub low : 1 ≤ x
+-- a number from the least to the most that is allowed, both included
+pub record Between (least most x : ℕ) : Type 0 where
+  pub low : least ≤ x
   pub high : x ≤ most

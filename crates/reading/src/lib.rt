@@ -3,7 +3,7 @@ ghost use mathlib.Core.Path.{_≡_};
 ghost use Prim.Native.Nat.{_≤_, _<_};
 ghost use lib.ListN.{length};
 ghost use Rattle.decimal.specs.Decimal.{nought};
-ghost use Rattle.reading.specs.inside.Read.{ReadsWord, ReadsNumber, Grows};
+ghost use Rattle.reading.specs.inside.Read.{ReadsWord, ReadsNumber, EndsNumber, Grows};
 
 // A place in a text.
 pub struct Cursor {
@@ -16,10 +16,10 @@ pub enum WordRead {
     Stuck(usize),
 }
 
-// A number was there, and the cursor behind the byte that ends it; or the place up to which some such number could
-// stand there.
+// A number was there, the byte that ends it, and the cursor behind that byte; or the place up to which some such number
+// could stand there.
 pub enum NumberRead {
-    Past(u64, Cursor),
+    Past(u64, u8, Cursor),
     Stuck(usize),
 }
 
@@ -68,9 +68,38 @@ fn grow(v: u64, byte: u8, most: u64) -> Grown
     Grown::More(more)
 }
 
-pub fn read_number(text: &[u8], from: Cursor, most: u64, end: u8) -> NumberRead
-    requires { ⌜ (from .at ≤ length (now text)) × (1 ≤ most) × (most ≤ 1000000000) × (end < nought) ⌝ }
-    ensures { λ r. ⌜ ReadsNumber most end (now (text .entry)) (from .at) r ⌝ }
+// What stands behind the number v: a byte that ends it, one of two, or neither.
+fn read_end(text: &[u8], from: Cursor, v: u64, end: u8, other: u8) -> NumberRead
+    requires { ⌜ from .at ≤ length (now text) ⌝ }
+    ensures { λ r. ⌜ EndsNumber v end other (now (text .entry)) (from .at) r ⌝ }
+{
+    let place = from.at;
+    if text.len() <= place {
+        return NumberRead::Stuck(place);
+    }
+    let byte = text[place];
+    let next = place + 1;
+    if byte == end {
+        return NumberRead::Past(v, byte, Cursor { at: next });
+    }
+    if byte == other {
+        return NumberRead::Past(v, byte, Cursor { at: next });
+    }
+    NumberRead::Stuck(place)
+}
+
+// A number of least to most, where least is 0 or 1.
+pub fn read_number(
+    text: &[u8],
+    from: Cursor,
+    least: u64,
+    most: u64,
+    end: u8,
+    other: u8,
+) -> NumberRead
+    requires { ⌜ (from .at ≤ length (now text)) × (least ≤ 1) × (1 ≤ most) × (most ≤ 1000000000)
+        × (end < nought) × (other < nought) ⌝ }
+    ensures { λ r. ⌜ ReadsNumber least most end other (now (text .entry)) (from .at) r ⌝ }
 {
     let mut at = from.at;
     let mut v: u64 = 0;
@@ -84,9 +113,13 @@ pub fn read_number(text: &[u8], from: Cursor, most: u64, end: u8) -> NumberRead
                 at = next;
             }
             Grown::None => {
-                if byte == end {
-                    if 0 < v {
-                        return NumberRead::Past(v, Cursor { at: next });
+                if 0 < v {
+                    return read_end(text, Cursor { at: at }, v, end, other);
+                }
+                // No digit before it: only 0 itself begins with the digit 0.
+                if least < 1 {
+                    if byte == 48 {
+                        return read_end(text, Cursor { at: next }, 0, end, other);
                     }
                 }
                 return NumberRead::Stuck(at);

@@ -1,7 +1,7 @@
 -- A row of a plan, with its rows above as a set and its blocking as a number: what its response asks for, and what it
 -- then is.
 use Prim.Native.Nat.{ℕ, _<_}
-use mathlib.Core.Path.{_≡_, refl, sym, _∙_}
+use mathlib.Core.Path.{_≡_, sym, _∙_}
 use mathlib.Core.Bool.{Bool}
 use mathlib.Core.List.{List}
 use native.Mathlib.Omega.{arith}
@@ -15,7 +15,7 @@ use Rattle.test.specs.Test.{Response, ResponseOf, above, blocking}
 use Rattle.sides.specs.inside.Asks.{Asks}
 use Rattle.counting.proofs.Cases.{and-left}
 use Rattle.test.proofs.Plans.{plan-active}
-use Rattle.responses.specs.inside.Asked.{Ranked, Above, Blocks, Planned}
+use Rattle.responses.specs.inside.Asked.{Ranked, Above, Planned}
 use Rattle.responses.proofs.Same.{Agree, agree-sym, active-same, response-same}
 
 -- row i of the plan that stands in ps has the rows of the set above it, and the blocking b
@@ -23,7 +23,7 @@ pub record Placed (tb : Table) (ps : List ℕ) (i set b : ℕ) : Type 0 where
   pub planned : Planned tb ps
   pub row : i < tb .n
   pub over : Above (planOf ps) (tb .n) (planOf ps .rank i) set
-  pub under : Blocks (planOf ps) (tb .n) (planOf ps .rank i) b
+  pub under : b ≡ blocking tb (planOf ps) (planOf ps .rank i)
 
 module _ {tb : Table} {ps : List ℕ} {i set b : ℕ} (p : Placed tb ps i set b) where
   abbrev P : ℕ → Bool
@@ -31,9 +31,6 @@ module _ {tb : Table} {ps : List ℕ} {i set b : ℕ} (p : Placed tb ps i set b)
 
   agree : Agree tb (marked set) P
   agree j h = p .over j ∙ rw (lt-ltb j (tb .n) h)
-
-  blocked : b ≡ blocking tb (planOf ps) (planOf ps .rank i)
-  blocked = p .under tb refl
 
   -- the rows above are rows of the table, and row i is none of them
   pub ranked : {asks : List ℕ} → Asks tb asks → Ranked tb asks set b i (planOf ps .len i)
@@ -49,9 +46,9 @@ module _ {tb : Table} {ps : List ℕ} {i set b : ℕ} (p : Placed tb ps i set b)
         some = p .planned .plan .len-low i (p .row);
         most = cap-run tb i (p .planned .plan .len-high i (p .row));
         period = a .0;
-        active = active-same tb P (marked set) b i (agree-sym tb agree) (rw blocked (a .1));
+        active = active-same tb P (marked set) b i (agree-sym tb agree) (rw (p .under) (a .1));
         within = a .2;
       }
 
   pub response-here : {R : ℕ} → Response tb (marked set) b i (planOf ps .len i) R → ResponseOf tb (planOf ps) i R
-  response-here x = response-same agree blocked x
+  response-here x = response-same agree (p .under) x

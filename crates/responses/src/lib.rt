@@ -10,7 +10,7 @@ ghost use Rattle.test.specs.Test.{Response};
 ghost use Rattle.sides.specs.inside.Asks.{ask-width, many, Asks};
 ghost use Rattle.sides.specs.inside.Level.{start-of, Small};
 ghost use Rattle.sides.specs.inside.Found.{Fixed, FixedWithin};
-ghost use Rattle.responses.specs.inside.Asked.{Ranked, Above, Blocks, Planned, Responses};
+ghost use Rattle.responses.specs.inside.Asked.{Ranked, Above, Blocks, Blocking, Planned, Responses};
 use sides::ASK_WIDTH;
 use tables::MOST_ROWS;
 use tables::PLAN_WIDTH;
@@ -91,20 +91,30 @@ fn above_of(plan: &[u32], n: usize, rank: u32) -> u32
     set
 }
 
-// The blocking at a rank: the largest length below, less 1; 0 where there is nothing below.
-fn blocking_of(plan: &[u32], n: usize, rank: u32) -> u32
+// What each row of the plan blocks with, and 0 past the rows.
+fn blocks_of(rows: [Row; 32], n: usize, plan: &[u32]) -> [u32; 32]
     requires { ⌜ (n ≤ most-rows) × (length (now plan) ≡ plan-width * n) ⌝ }
-    ensures { λ r. ⌜ Blocks (planOf (now (plan .entry))) n rank r ⌝ }
+    ensures { λ r. ⌜ Blocks (tableIn rows n) (planOf (now (plan .entry))) r ⌝ }
+{
+    let mut blocks: [u32; 32] = [0; 32];
+    let mut i: usize = 0;
+    while i < n {
+        blocks[i] = tables::longer(rows[i], plan[PLAN_WIDTH * i + 1]);
+        i += 1;
+    }
+    blocks
+}
+
+// The blocking at a rank: the most that a row below blocks with, less 1; 0 where there is nothing below.
+fn blocking_of(plan: &[u32], n: usize, blocks: &[u32; 32], rank: u32) -> u32
+    requires { ⌜ (n ≤ most-rows) × (length (now plan) ≡ plan-width * n) ⌝ }
+    ensures { λ r. ⌜ Blocking (planOf (now (plan .entry))) n (now (blocks .entry)) rank r ⌝ }
 {
     let mut longest: u32 = 0;
     let mut i: usize = 0;
     while i < n {
-        let at = PLAN_WIDTH * i;
-        if rank < plan[at] {
-            let len = plan[at + 1];
-            if longest < len {
-                longest = len;
-            }
+        if rank < plan[PLAN_WIDTH * i] {
+            longest = counting::larger(longest, blocks[i]);
         }
         i += 1;
     }
@@ -119,6 +129,7 @@ pub fn responses(rows: [Row; 32], n: usize, asks: &[u64], plan: &[u32]) -> [u32;
     requires { ⌜ Planned (tableIn rows n) (now plan) × Asks (tableIn rows n) (now asks) ⌝ }
     ensures { λ r. ⌜ Responses (tableIn rows n) (planOf (now (plan .entry))) r ⌝ }
 {
+    let blocks = blocks_of(rows, n, plan);
     let mut times: [u32; 32] = [0; 32];
     let mut level = [0u64; ASK_WIDTH * MOST_ROWS];
     let mut i: usize = 0;
@@ -127,7 +138,7 @@ pub fn responses(rows: [Row; 32], n: usize, asks: &[u64], plan: &[u32]) -> [u32;
         let rank = plan[at];
         let q = plan[at + 1];
         let above = above_of(plan, n, rank);
-        let b = blocking_of(plan, n, rank);
+        let b = blocking_of(plan, n, &blocks, rank);
         times[i] = response(rows, asks, &mut level, above, b, i, q);
         i += 1;
     }

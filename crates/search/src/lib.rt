@@ -1,31 +1,38 @@
-// The search for one rank: the unplaced row with the least shortest passing length, the earliest among equals.
+// The search for one rank: of the unplaced rows the one that blocks with the least at its shortest passing length, the
+// earliest among equals.
 ghost use mathlib.Core.Path.{_≡_};
-ghost use Prim.Native.Nat.{_+_, _-_, _*_, min, _≤_, _<_};
+ghost use Prim.Native.Nat.{_+_, _*_, _≤_, _<_};
 ghost use lib.ListN.{length};
 ghost use Rattle.marks.specs.inside.Marks.{marked};
 ghost use Rattle.tables.specs.Table.{most, most-rows};
-ghost use Rattle.tables.specs.inside.Rows.{tableIn};
+ghost use Rattle.tables.specs.inside.Rows.{tableIn, EndsBeforeRun};
 ghost use Rattle.sides.specs.inside.Asks.{ask-width, many};
-ghost use Rattle.search.specs.inside.Choose.{Searchable, Picked};
+ghost use Rattle.search.specs.inside.Choose.{Searchable, WorthIn, Picked};
 use sides::ASK_WIDTH;
 use tables::Row;
 
-// The row that takes the rank, with its length and its response; or nothing, where no row has a passing length.
+// The row that takes the rank, with its length, what it blocks with and its response; or nothing, where no row has a
+// passing length.
 pub enum Pick {
-    Taken(u32, u32, u32),
+    Taken(u32, u32, u32, u32),
     Nothing,
 }
 
-// The longest length worth a try: the least of C and the best length so far less 1. A row that cannot beat the best
-// cannot take the rank.
-fn cap_of(c: u32, best: u32) -> u32
-    ensures { λ r. ⌜ (best ≡ 0 → r ≡ c) × (1 ≤ best → r ≡ min c (best - 1)) ⌝ }
+// The longest length worth a try, with which a row blocks with less than the best so far; 0 where its middle region
+// alone blocks with as much. A row that cannot beat the best cannot take the rank.
+fn cap_of(row: Row, best: u32) -> u32
+    requires { ⌜ EndsBeforeRun row ⌝ }
+    ensures { λ r. ⌜ WorthIn row best r ⌝ }
 {
+    let cap = tables::cap(row);
     if best == 0 {
-        return c;
+        return cap;
     }
-    if c < best {
-        return c;
+    if best <= row.region {
+        return 0;
+    }
+    if cap < best {
+        return cap;
     }
     best - 1
 }
@@ -43,7 +50,7 @@ fn next_length(low: u32, high: u32, cap: u32) -> u32
 
 // The rows to try are given beside the unplaced ones, with the runs of these added up; room for a level is lent, and
 // those go into it that are released again in a busy period. The active period, and what is asked for in its first
-// tick, are the same for every row tried. No row is tried after one that takes the rank with length 1.
+// tick, are the same for every row tried. No row is tried after one that blocks with 1.
 pub fn choose(
     rows: [Row; 32],
     asks: &[u64],
@@ -64,6 +71,7 @@ pub fn choose(
     let period = sides::periods::active_period(&level[..ASK_WIDTH * all], first);
     let mut row: u32 = 0;
     let mut best: u32 = 0;
+    let mut shortest: u32 = 0;
     let mut response: u32 = 0;
     let mut rest = tried;
     'rows: while rest != 0 {
@@ -77,7 +85,7 @@ pub fn choose(
         let own = rows[i as usize];
         let c = own.c;
         let t = own.t;
-        let cap = cap_of(c, best);
+        let cap = cap_of(own, best);
         // No length below low passes; high passes with the response time, or lies past the cap.
         let mut low: u32 = 1;
         let mut high = cap + 1;
@@ -124,9 +132,10 @@ pub fn choose(
         sides::put_back(level, inside, at, asks, i as usize);
         if high <= cap {
             row = i;
-            best = high;
+            best = tables::longer(own, high);
+            shortest = high;
             response = time;
-            if high == 1 {
+            if best == 1 {
                 rest = 0;
             }
         }
@@ -134,5 +143,5 @@ pub fn choose(
     if best == 0 {
         return Pick::Nothing;
     }
-    Pick::Taken(row, best, response)
+    Pick::Taken(row, shortest, best, response)
 }

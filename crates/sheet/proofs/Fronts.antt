@@ -17,7 +17,7 @@ use Rattle.sheet.specs.Sheet.{Task, longest-tick, taskLine, TaskWithin, 
 use Rattle.sheet.specs.Sheet.{WellFormed, sheetText, Sheet, Shared, LongestPrefix, rowOf, ticksOf}
 use Rattle.sheet.specs.Answers.{sheet-form}
 use Rattle.sheet.specs.inside.Read.{tickPiece, taskPiece, Front}
-use Rattle.sheet.proofs.Lines.{code-tick, code-task, tick-length, task-length, one-time}
+use Rattle.sheet.proofs.Lines.{code-tick, code-task, tick-length, task-length, one, one-within}
 
 -- one task more
 pub within-more : (ts : List Task) (t : Task) → TasksWithin ts → TaskWithin t → TasksWithin (ts ++ t ∷ [])
@@ -44,18 +44,18 @@ unfolding ticksOf
 length-ticks tick [] = refl
 length-ticks tick (t ∷ ts) = omega (arith, length-ticks tick ts)
 
--- how long the task lines are: each has some bytes, and 38 at most
+-- how long the task lines are: each has some bytes, and 60 at most
 lines-length : (ts : List Task) → TasksWithin ts →
-    (length ts ≤ length (taskLines ts)) × (length (taskLines ts) ≤ 38 * length ts)
+    (length ts ≤ length (taskLines ts)) × (length (taskLines ts) ≤ 60 * length ts)
 unfolding taskLines
 lines-length [] h = (omega arith, omega arith)
 lines-length (t ∷ ts) h =
     let r = lines-length ts (h .1) in
     let l = task-length t (h .0) in (simp length-append (omega arith), simp length-append (omega arith))
 
--- the first line with its four digits, and 32 lines with three numbers of ten digits each
+-- the first line with its four digits, and 32 lines with five numbers of ten digits each
 abbrev pub longest-sheet : ℕ
-longest-sheet = 10 + 32 * 38
+longest-sheet = 10 + 32 * 60
 
 pub sheet-length : (tick : ℕ) (ts : List Task) → WellFormed tick ts → length (sheetText tick ts) ≤ longest-sheet
 unfolding sheetText
@@ -82,8 +82,9 @@ lines-rest (t ∷ ts) (u ∷ us) x h g e =
     record { rest = r .rest; joined = cc; within = r .within; text = r .text }
 
 -- the same of whole sheets
-sheet-rest : (tick tock : ℕ) (ts us : List Task) (x : List ℕ) → Between longest-tick tick → Between longest-tick tock →
-    TasksWithin ts → TasksWithin us → sheetText tick ts ++ x ≡ sheetText tock us → (tick ≡ tock) × Rest ts us x
+sheet-rest : (tick tock : ℕ) (ts us : List Task) (x : List ℕ) → Between 1 longest-tick tick →
+    Between 1 longest-tick tock → TasksWithin ts → TasksWithin us → sheetText tick ts ++ x ≡ sheetText tock us →
+    (tick ≡ tock) × Rest ts us x
 unfolding sheetText
 sheet-rest tick tock ts us x p q h g e =
     let f = rw append-assoc at e in (
@@ -122,14 +123,6 @@ longest-here text place h s none =
       longest = λ m l g. by-le m place (λ q. q)
           (λ q. absurd (none (omega arith) (g .0, g .1, g .2, begins-less text (suc place) m q (g .3))));
     }
-
--- a task that may follow anything
-one : Task
-one = record { C = 1; D = 1; T = 1 }
-
-one-within : TaskWithin one
-unfolding one
-one-within = record { C = one-time; D = one-time; T = one-time }
 
 -- stuck in the first line
 pub tick-stuck : (text : List ℕ) (place : ℕ) → Stuck tickPiece text 0 place → sheet-form text .hits place

@@ -14,16 +14,24 @@ ghost use Rattle.tables.specs.Table.{row-width, most-rows};
 ghost use Rattle.tables.specs.Checks.{Rows};
 ghost use Rattle.tables.specs.Answer.{resultOf};
 ghost use Rattle.reading.specs.Begins.{Between};
-ghost use Rattle.sheet.specs.Sheet.{longest-tick, TaskWithin, rowOf};
+ghost use Rattle.sheet.specs.Sheet.{longest-tick, RegionWithin, TaskWithin, startTicks, lengthTicks, rowOf};
 ghost use Rattle.sheet.specs.Answers.{TicksAnswer, SheetAnswer};
-ghost use Rattle.sheet.specs.inside.Read.{taskOf, ReadsTick, ReadsTimes, ReadsTask, Front, ReadsTasks};
-ghost use Rattle.sheet.specs.inside.Read.{ReadsSheet};
+ghost use Rattle.sheet.specs.inside.Read.{regionOf, taskOf, ReadsTick, ReadsRegion, ReadsTimes, ReadsTask};
+ghost use Rattle.sheet.specs.inside.Read.{Front, ReadsTasks, ReadsSheet};
 
-// What a line `task C D T` says, in microseconds.
+// What a line `task C D T` says, in microseconds, and start and length of its region, both 0 where it has none.
 pub struct Times {
     pub c: u64,
     pub d: u64,
     pub t: u64,
+    pub start: u64,
+    pub length: u64,
+}
+
+// Start and length of a region in ticks.
+pub struct RegionTicks {
+    pub start: u32,
+    pub length: u32,
 }
 
 // A task line was there, and the cursor behind it; or the place up to which one could stand there.
@@ -49,11 +57,11 @@ fn read_tick(text: &[u8]) -> NumberRead
     let named = reading::read_word(text, Cursor { at: 0 }, b"tick ");
     match named {
         WordRead::Stuck(place) => NumberRead::Stuck(place),
-        WordRead::Past(next) => reading::read_number(text, next, TICK, b'\n'),
+        WordRead::Past(next) => reading::read_number(text, next, 1, TICK, b'\n', b'\n'),
     }
 }
 
-// One line, `task C D T`.
+// One line, `task C D T` or `task C D T start length`.
 fn read_task(text: &[u8], from: Cursor) -> LineRead
     requires { ⌜ from .at ≤ length (now text) ⌝ }
     ensures { λ r. ⌜ ReadsTask (now (text .entry)) (from .at) r ⌝ }
@@ -65,26 +73,35 @@ fn read_task(text: &[u8], from: Cursor) -> LineRead
     }
 }
 
-// The three numbers of a task line.
+// The numbers of a task line: behind a space a region follows the spacing.
 fn read_times(text: &[u8], from: Cursor) -> LineRead
     requires { ⌜ from .at ≤ length (now text) ⌝ }
     ensures { λ r. ⌜ ReadsTimes (now (text .entry)) (from .at) r ⌝ }
 {
-    let run = reading::read_number(text, from, TIME, b' ');
+    let run = reading::read_number(text, from, 1, TIME, b' ', b' ');
     match run {
         NumberRead::Stuck(place) => LineRead::Stuck(place),
-        NumberRead::Past(c, to_deadline) => {
-            let deadline = reading::read_number(text, to_deadline, TIME, b' ');
+        NumberRead::Past(c, _, to_deadline) => {
+            let deadline = reading::read_number(text, to_deadline, 1, TIME, b' ', b' ');
             match deadline {
                 NumberRead::Stuck(place) => LineRead::Stuck(place),
-                NumberRead::Past(d, to_spacing) => {
-                    let spacing = reading::read_number(text, to_spacing, TIME, b'\n');
+                NumberRead::Past(d, _, to_spacing) => {
+                    let spacing = reading::read_number(text, to_spacing, 1, TIME, b' ', b'\n');
                     match spacing {
                         NumberRead::Stuck(place) => LineRead::Stuck(place),
-                        NumberRead::Past(t, next) => LineRead::Past(
-                            Times { c: c, d: d, t: t },
-                            next,
-                        ),
+                        NumberRead::Past(t, end, next) => {
+                            let times = Times {
+                                c: c,
+                                d: d,
+                                t: t,
+                                start: 0,
+                                length: 0,
+                            };
+                            if end == b'\n' {
+                                return LineRead::Past(times, next);
+                            }
+                            read_region(text, next, times)
+                        }
                     }
                 }
             }
@@ -92,14 +109,64 @@ fn read_times(text: &[u8], from: Cursor) -> LineRead
     }
 }
 
+// Start and length of a region, behind the other times of its task.
+fn read_region(text: &[u8], from: Cursor, times: Times) -> LineRead
+    requires { ⌜ from .at ≤ length (now text) ⌝ }
+    ensures { λ r. ⌜ ReadsRegion times (now (text .entry)) (from .at) r ⌝ }
+{
+    let begin = reading::read_number(text, from, 0, TIME, b' ', b' ');
+    match begin {
+        NumberRead::Stuck(place) => LineRead::Stuck(place),
+        NumberRead::Past(start, _, to_length) => {
+            let region = reading::read_number(text, to_length, 1, TIME, b'\n', b'\n');
+            match region {
+                NumberRead::Stuck(place) => LineRead::Stuck(place),
+                NumberRead::Past(length, _, next) => LineRead::Past(
+                    Times {
+                        c: times.c,
+                        d: times.d,
+                        t: times.t,
+                        start: start,
+                        length: length,
+                    },
+                    next,
+                ),
+            }
+        }
+    }
+}
+
+// A region in ticks, from its start rounded down to its end rounded up; 0 and 0 where there is none.
+fn region_ticks(start: u64, length: u64, tick: u64) -> RegionTicks
+    requires { ⌜ RegionWithin (regionOf start length) × Between 1 longest-tick tick ⌝ }
+    ensures { λ r. ⌜ (r .start ≡ startTicks tick (regionOf start length))
+        × (r .length ≡ lengthTicks tick (regionOf start length)) ⌝ }
+{
+    if length == 0 {
+        return RegionTicks {
+            start: 0,
+            length: 0,
+        };
+    }
+    let before = start / tick;
+    let end = counting::round_up(start + length, tick);
+    RegionTicks {
+        start: before as u32,
+        length: (end - before) as u32,
+    }
+}
+
 // The row of a task in ticks, into its own part of the table: a run may not shrink, nor a deadline or a spacing grow.
 fn put_ticks(row: &mut [u32], times: Times, tick: u64)
-    requires { ⌜ (length (now row) ≡ row-width) × TaskWithin (taskOf times) × Between longest-tick tick ⌝ }
+    requires { ⌜ (length (now row) ≡ row-width) × TaskWithin (taskOf times) × Between 1 longest-tick tick ⌝ }
     ensures { λ _. ⌜ now (row .exit) ≡ rowOf tick (taskOf times) ⌝ }
 {
+    let region = region_ticks(times.start, times.length, tick);
     row[0] = counting::round_up(times.c, tick) as u32;
     row[1] = (times.d / tick) as u32;
     row[2] = (times.t / tick) as u32;
+    row[3] = region.start;
+    row[4] = region.length;
 }
 
 // The task lines behind the first line, their rows into the table.
@@ -140,7 +207,7 @@ fn read_sheet(text: &[u8], table: &mut [u32]) -> SheetRead
     let first = read_tick(text);
     match first {
         NumberRead::Stuck(place) => SheetRead::Stuck(place),
-        NumberRead::Past(tick, next) => read_tasks(text, next, tick, table),
+        NumberRead::Past(tick, _, next) => read_tasks(text, next, tick, table),
     }
 }
 

@@ -7,13 +7,14 @@ ghost use mathlib.Core.Bool.{true};
 ghost use Prim.Native.Nat.{ℕ, _+_, _-_, _*_, _≤_, _<_};
 ghost use lib.ListN.{length};
 ghost use Rattle.marks.specs.inside.Marks.{marked, Where};
-ghost use Rattle.tables.specs.Table.{Sound, most, most-rows};
-ghost use Rattle.tables.specs.inside.Rows.{tableIn};
+ghost use Rattle.tables.specs.Table.{most, most-rows, tableOf};
+ghost use Rattle.tables.specs.inside.Rows.{SoundSlice};
 ghost use Rattle.test.specs.Test.{horizon};
 ghost use Rattle.sides.specs.inside.Asks.{ask-width, many, repeated, AsksFront};
 ghost use Rattle.sides.specs.inside.Level.{runs-of, part-of, later, busy-of, active-of, start-of};
 ghost use Rattle.sides.specs.inside.Level.{Small, Packed, LeftOut, PutBack};
 use tables::MOST_ROWS;
+use tables::ROW_WIDTH;
 use tables::Row;
 
 // How many numbers a row asks with: its run, and the inverse of its spacing.
@@ -22,18 +23,20 @@ pub const ASK_WIDTH: usize = 2;
 // 2^40, of which an inverse is a fraction: s times the inverse of T over it is s / T, for s and T up to 1,000,000.
 const SCALE: u64 = 1099511627776;
 
-// What each row asks with: made once for a table.
-pub fn asks_of(rows: [Row; 32], n: usize) -> [u64; ASK_WIDTH * MOST_ROWS]
-    requires { ⌜ Sound (tableIn rows n) ⌝ }
-    ensures { λ r. ⌜ AsksFront (tableIn rows n) r ⌝ }
+// What each row of the table asks with: made once.
+pub fn asks_of(table: &[u32]) -> [u64; ASK_WIDTH * MOST_ROWS]
+    requires { ⌜ SoundSlice (now table) ⌝ }
+    ensures { λ r. ⌜ AsksFront (tableOf (now (table .entry))) r ⌝ }
 {
+    let n = table.len() / ROW_WIDTH;
     let mut asks = [0u64; ASK_WIDTH * MOST_ROWS];
     let mut i: usize = 0;
     while i < n {
-        let row = rows[i];
+        let run = table[ROW_WIDTH * i];
+        let spacing = table[ROW_WIDTH * i + 2];
         let at = ASK_WIDTH * i;
-        asks[at] = row.c as u64;
-        asks[at + 1] = SCALE / (row.t as u64) + 1;
+        asks[at] = run as u64;
+        asks[at + 1] = SCALE / (spacing as u64) + 1;
         i += 1;
     }
     asks

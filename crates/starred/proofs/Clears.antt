@@ -4,26 +4,31 @@ use mathlib.Core.Logic.{⊎-elim}
 use mathlib.Core.List.{List}
 use native.Mathlib.Omega.{arith}
 use lib.Dec.{eqb}
-use lib.ListN.{length, getD}
+use lib.ListN.{length}
 use borrow.Author.Tests.{eq-eqb}
-use Rattle.tables.specs.Table.{Table, tableOf, row-width, most-rows, most}
+use Rattle.tables.specs.Table.{Table, Within, SoundRow, tableOf, row-width, most-rows, most, region-end}
 use Rattle.tables.specs.Plan.{planOf, plan-width, cap}
 use Rattle.tables.specs.Jobs.{jobsOf, job-width, most-jobs, last-release}
 use Rattle.tables.specs.Refusal.{Clear}
 use Rattle.tables.specs.Checks.{shape, range, plan-form, jobs-shape, job-rules}
-use Rattle.tables.proofs.Clear.{shape-of-rows, range-of-within, clear-of-plan, shape-of-jobs}
-use Rattle.starred.proofs.Tests.{Test, equal, at-most, less, both, so₂, so₄, when, each}
+use Rattle.tables.proofs.Clear.{clear-of-sound, clear-of-plan, shape-of-jobs}
+use Rattle.starred.proofs.Tests.{Test, equal, at-most, less, both, so₂, so₄, so₅, when, each}
+
+-- a number of 1 to 1,000,000
+abbrev within-test : (x : ℕ) → Test (Within x)
+within-test x = so₂ (at-most 1 x) (at-most x most) (λ low high. record { low = low; high = high })
+
+abbrev row-test : (tb : Table) (i : ℕ) → Test (SoundRow tb i)
+row-test tb i =
+    so₅ (within-test (tb .C i)) (within-test (tb .D i)) (within-test (tb .T i)) (less (region-end tb i) (tb .C i))
+    (when (eqb (tb .M i) 0) (eq-eqb (tb .M i) 0) (equal (tb .S i) 0))
+    (λ C D T region none. record { C = C; D = D; T = T; region = region; none = none })
 
 unfoldable pub table-test : (xs : List ℕ) → Test (Clear (shape xs) × Clear (range xs))
 table-test xs =
     let n = tableOf xs .n in
-    so₄ (equal (length xs) (row-width * n)) (at-most 1 n) (at-most n most-rows)
-    (each (length xs) (λ i. so₂ (at-most 1 (getD xs i 0)) (at-most (getD xs i 0) most)
-    (λ low high. record { low = low; high = high })))
-    (λ whole some few within. (
-      shape-of-rows xs (record { n = n; whole = whole; some = some; few = few }),
-      range-of-within xs within,
-    ))
+    so₄ (equal (length xs) (row-width * n)) (at-most 1 n) (at-most n most-rows) (each n (row-test (tableOf xs)))
+    (λ whole some few rows. clear-of-sound xs whole (record { some = some; few = few; row = rows }))
 
 unfoldable pub plan-test : (tb : Table) (ps : List ℕ) → Test (Clear (plan-form tb ps))
 plan-test tb ps =

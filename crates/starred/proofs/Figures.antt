@@ -21,10 +21,12 @@ use Rattle.test.specs.Answers.{times-width, timeIn}
 use Rattle.test.proofs.Load.{sound-positive}
 use Rattle.test.proofs.Plans.{plan-bounded}
 use Rattle.choice.proofs.Filled.{chosen-not-stopped}
+use Rattle.choice.specs.Choice.{Stopped}
 use Rattle.choice.specs.Answers.{plannedOf, responseIn, planned-width}
 use Rattle.kernel.specs.Rule.{one-of, pick, executed, Finishes}
-use Rattle.starred.specs.Figures.{Figure, plans, refuses, timed, plays, takes, shortest, Right, AllRight, figures}
-use Rattle.starred.specs.Figures.{further, StarredFigures, wholly, second-planned, third-planned, three-planned}
+use Rattle.starred.specs.Figures.{Figure, plans, refuses, stops, timed, plays, takes, shortest, Refused, Right}
+use Rattle.starred.specs.Figures.{AllRight, figures, further, region-figures, StarredFigures, RegionFigures}
+use Rattle.starred.specs.Figures.{wholly, second-planned, third-planned, three-planned}
 use Rattle.starred.specs.Figures.{overloaded-refused, urgent-planned, thirds-planned, over-refused}
 use Rattle.starred.proofs.Tests.{Test, equal, less, both, so₃, so₅, either, each}
 use Rattle.starred.proofs.Seen.{look, seen, busy, passes-h, overloaded, period, start, value, taken, responds}
@@ -70,11 +72,11 @@ plans-test xs ys =
       rest = no-rest out ys (planned-width * tb .n) same whole;
     }))
 
-refuses-test : (xs : List ℕ) (number place : ℕ) → Test (Right (refuses xs number place))
-refuses-test xs number place =
+refused-test : (xs : List ℕ) (number place : ℕ) → Test (Stopped (tableOf xs)) → Test (Refused xs number place)
+refused-test xs number place stopped =
     let tb = tableOf xs in
     so₃ (table-test xs) (equal place 0)
-    (either (both (equal number 4) (overloaded tb)) (both (equal number 5) (both (busy tb) (stopped-test tb))))
+    (either (both (equal number 4) (overloaded tb)) (both (equal number 5) (both (busy tb) stopped)))
     (λ clear at why out room.
     clear .0 past clear .1 past (λ p h. omega (arith, h .1)) past ⊎-elim
     (λ four. inl (record { number = four .0; place = (at, four .1); value = refl; unwritten = refl }))
@@ -85,6 +87,20 @@ refuses-test xs number place =
       unwritten = refl;
     }))
     why)
+
+-- no row is placed: where nothing is said of them, the choice stops at the lowest rank
+nothing-placed : Plan
+nothing-placed = record { rank = λ i. 0; len = λ i. 0 }
+
+refuses-test : (xs : List ℕ) (number place : ℕ) → Test (Right (refuses xs number place))
+refuses-test xs number place =
+    let tb = tableOf xs in refused-test xs number place (stopped-test tb nothing-placed (tb .n))
+
+stops-test : (xs ps : List ℕ) (r : ℕ) → Test (Right (stops xs ps r))
+stops-test xs ps r =
+    let tb = tableOf xs in
+    let p = planOf ps in
+    both (refused-test xs 5 0 (stopped-test tb p r)) (filled-test tb p r)
 
 timed-test : (xs ps ys : List ℕ) → Test (Right (timed xs ps ys))
 timed-test xs ps ys =
@@ -122,6 +138,7 @@ plays-test xs ps js ys =
 test-of : (f : Figure) → Test (Right f)
 test-of (plans xs ys) = plans-test xs ys
 test-of (refuses xs number place) = refuses-test xs number place
+test-of (stops xs ps r) = stops-test xs ps r
 test-of (timed xs ps ys) = timed-test xs ps ys
 test-of (plays xs ps js ys) = plays-test xs ps js ys
 test-of (takes xs ps i k ticks) =
@@ -134,16 +151,20 @@ every : (fs : List Figure) → Test (AllRight fs)
 every [] = record { passes = true; shows = λ _. tt }
 every (f ∷ fs) = both (test-of f) (every fs)
 
--- the checker computes the test of the whole table, and of the figures beside it
-all-figures : StarredFigures × AllRight further
-unfolding figures further every test-of plans-test refuses-test timed-test plays-test response-test finish-test look
+-- the checker computes the test of each whole table, and of the figures beside the first
+all-figures : StarredFigures × AllRight further × RegionFigures
+unfolding figures further region-figures every test-of plans-test refused-test nothing-placed refuses-test stops-test
+    timed-test plays-test response-test finish-test look
     seen busy passes-h overloaded period start value taken responds known passing short shortest-test comes-after
     takes-test none-test filled-test stopped-test table-test plan-test jobs-test first all up sum largest count load
     busy-side active-side start-side cap longer longest blocking one-of pick executed
-all-figures = (every figures .shows refl, every further .shows refl)
+all-figures = (every figures .shows refl, every further .shows refl, every region-figures .shows refl)
 
 pub starred-figures : StarredFigures
 starred-figures = all-figures .0
+
+pub region-figures-right : RegionFigures
+region-figures-right = all-figures .2
 
 -- a figure of a list
 abbrev Among : Figure → List Figure → Type 0

@@ -143,16 +143,8 @@ filled-test tb p r =
 abbrev pub nothing-placed : Plan
 nothing-placed = record { rank = λ i. 0; len = λ i. 0 }
 
--- nothing passes at the lowest rank
-unfoldable pub stopped-test : (tb : Table) → Test (Stopped tb)
-stopped-test tb =
-    let n = tb .n in
-    so₃ (at-most 1 n) (filled-test tb nothing-placed n) (none-test tb nothing-placed n)
-    (λ low filled none. record {
-      plan = nothing-placed;
-      rank = n;
-      low = low;
-      high = omega arith;
-      filled = filled;
-      none = none;
-    })
+-- nothing passes at rank r, with the ranks greater than it filled as the plan says
+unfoldable pub stopped-test : (tb : Table) (p : Plan) (r : ℕ) → Test (Stopped tb)
+stopped-test tb p r =
+    so₄ (at-most 1 r) (at-most r (tb .n)) (filled-test tb p r) (none-test tb p r)
+    (λ low high filled none. record { plan = p; rank = r; low = low; high = high; filled = filled; none = none })

@@ -14,7 +14,7 @@ use Rattle.counting.proofs.Cases.{by-bool, and-left, and-right}
 use Rattle.counting.proofs.Least.{least-unique}
 use Rattle.tables.specs.Table.{Table}
 use Rattle.tables.specs.Refusal.{Check, Clear, Outcome, bare, Refused, Granted, Answered}
-use Rattle.tables.specs.Checks.{shape, range, plan-form, jobs-shape, job-rules, room}
+use Rattle.tables.specs.Checks.{rows-shape, range, plan-form, jobs-shape, job-rules, room}
 
 -- the check hits at one place at most
 abbrev pub OnePlace : Check → Type 0
@@ -115,8 +115,8 @@ same-rest n l m e i h =
     let q : n + (i - n) ≡ i = omega arith in cc (getD-drop n l (i - n) 0, getD-drop n m (i - n) 0)
 
 -- the checks of tables, plans, job lists and outputs
-pub shape-place : (xs : List ℕ) → OnePlace (shape xs)
-shape-place xs a b h g = h .0 ∙ sym (g .0)
+pub shape-place : (width : ℕ) (xs : List ℕ) → OnePlace (rows-shape width xs)
+shape-place width xs a b h g = h .0 ∙ sym (g .0)
 
 pub range-place : (xs : List ℕ) → OnePlace (range xs)
 range-place xs a b h g = least-unique h g

@@ -8,11 +8,12 @@ use native.Mathlib.Omega.{arith}
 use lib.ListN.{length}
 use Rattle.counting.specs.Least.{Least}
 use Rattle.counting.proofs.Cases.{by-le, not-both}
-use Rattle.tables.specs.Table.{Table}
+use Rattle.tables.specs.Table.{Table, tableOf}
 use Rattle.tables.specs.Plan.{plan-width, planOf}
 use Rattle.tables.specs.Refusal.{Clear}
 use Rattle.tables.specs.Checks.{RowAtFault, range, plan-form}
-use Rattle.tables.specs.inside.Checked.{Says, FirstOutside}
+use Rattle.tables.specs.inside.Checked.{Says, FirstFault}
+use Rattle.tables.proofs.Numbers.{number-in}
 
 -- the same question, put in another way
 pub says-map : {A B : Type 0} (b : Bool) → (A → B) → (B → A) → Says b A → Says b B
@@ -32,12 +33,15 @@ pub first-here : {E : ℕ → Type 0} (i : ℕ) → E i → ((j : ℕ) → j < i
 first-here i e none =
     record { low = omega arith; holds = e; least = λ u _ g. by-le i u (λ l. l) (λ l. absurd (none u l g)) }
 
-module _ (xs : List ℕ) (i : ℕ) (f : FirstOutside xs i) where
-  pub range-hit : i < length xs → range xs .hits i
-  range-hit h = first-here i (h, f .outside h) (λ j l e. e .1 (f .within j l))
+module _ (xs : List ℕ) (at : ℕ) (f : FirstFault xs at) where
+  pub range-hit : at < length xs → range xs .hits at
+  range-hit h =
+      record { low = omega arith; holds = f .fault h; least = λ u _ e. f .least (e .0) u (e .1) (e .2) }
 
-  pub range-clear : length xs ≤ i → Clear (range xs)
-  range-clear h place l = l .holds .1 (f .within place (let g = l .holds .0 in omega arith))
+  pub range-clear : length xs ≤ at → Clear (range xs)
+  range-clear h place l =
+      let e = l .holds in
+      omega (arith, e .1, f .least (e .0) place (e .1) (e .2), number-in (tableOf xs) (e .0) (e .2))
 
 module _ (tb : Table) (ps : List ℕ) (whole : length ps ≡ plan-width * tb .n) (i : ℕ)
     (none : (j : ℕ) → j < i → RowAtFault tb (planOf ps) j → ⊥) where

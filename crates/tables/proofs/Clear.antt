@@ -1,18 +1,24 @@
 -- What is known where the checks are clear: a sound table, a well-formed plan, a well-formed job list; and back.
-use Prim.Native.Nat.{ℕ, zero, suc, _+_, _*_, _/_, _≤_, _<_}
-use mathlib.Core.Path.{_≡_, refl, sym}
+use Prim.Native.Nat.{ℕ, zero, suc, pred, _+_, _*_, _≤_, _<_}
+use mathlib.Core.Path.{_≡_, refl, sym, ap, _∙_}
+use mathlib.Core.Bool.{Bool}
 use mathlib.Core.Logic.{inl, inr, ⊎-elim}
 use mathlib.Core.List.{List}
 use native.Mathlib.Omega.{arith}
-use lib.ListN.{length, getD}
+use lib.Dec.{eqb}
+use lib.ListN.{length}
+use borrow.Author.Tests.{eq-eqb, eqb-true}
 use Rattle.counting.specs.Least.{Least}
-use Rattle.counting.proofs.Cases.{by-le, by-eq}
-use Rattle.tables.specs.Table.{Table, Within, Sound, row-width, most-rows, most, tableOf}
+use Rattle.counting.proofs.Cases.{by-le, by-eq, not-both}
+use Rattle.counting.proofs.Search.{by-any}
+use Rattle.tables.specs.Table.{Table, Within, SoundRow, Sound, row-width, most-rows, most, region-end}
+use Rattle.tables.specs.Table.{tableOf}
 use Rattle.tables.specs.Plan.{Plan, WellFormed, plan-width, cap, planOf}
 use Rattle.tables.specs.Jobs.{Jobs, WellFormedJobs, job-width, most-jobs, last-release, jobsOf}
 use Rattle.tables.specs.Refusal.{Clear}
-use Rattle.tables.specs.Checks.{Rows, RowAtFault, shape, range, plan-form, BreaksAlone, BreaksAgainst, jobs-shape}
-use Rattle.tables.specs.Checks.{job-rules}
+use Rattle.tables.specs.Checks.{Rows, StartAtFault, RegionAtFault, NumberAtFault, RowAtFault, rows-shape, shape}
+use Rattle.tables.specs.Checks.{range, plan-form, BreaksAlone, BreaksAgainst, jobs-shape, job-rules}
+use Rattle.tables.proofs.Numbers.{by-number}
 use Rattle.tables.proofs.Checked.{first-here}
 
 -- an order and an equation that are not refuted
@@ -30,65 +36,91 @@ no-least {E} none t = below (suc t) t (omega arith)
     below zero t h e = absurd (omega arith)
     below (suc k) t h e = none t (first-here t e (λ u l. below k u (omega arith)))
 
--- the shape of a table
-pub rows-of-shape : (xs : List ℕ) → Clear (shape xs) → Rows row-width xs
-rows-of-shape xs clear =
-    let n = length xs / row-width in
-    let no : (Rows row-width xs → ⊥) → ⊥ = λ h. clear 0 (refl, h) in
+-- the shape of a table, whatever the width of its rows
+module _ (width : ℕ) (xs : List ℕ) where
+  pub rows-of-shape : Clear (rows-shape width xs) → Rows width xs
+  rows-of-shape clear =
+      let whole : ℕ → Bool = λ n. eqb (length xs) (width * suc n) in
+      by-any whole most-rows
+      (λ none.
+      let no : Rows width xs → ⊥ =
+      λ r.
+      let e : suc (pred (r .n)) ≡ r .n = omega (arith, r .some) in
+      not-both (whole (pred (r .n))) (none (pred (r .n)) (omega (arith, r .some, r .few)))
+      (eq-eqb (length xs) (width * suc (pred (r .n))) (r .whole ∙ ap (λ n. width * n) (sym e))) in
+      absurd (clear 0 (refl, no)))
+      (λ n l e. record {
+        n = suc n;
+        whole = eqb-true (length xs) (width * suc n) e;
+        some = omega arith;
+        few = omega arith;
+      })
+
+  pub shape-of-rows : Rows width xs → Clear (rows-shape width xs)
+  shape-of-rows r place h = h .1 r
+
+-- a number within its limits, where that is not refuted
+not-not-within : (x : ℕ) → ((Within x → ⊥) → ⊥) → Within x
+not-not-within x n =
     record {
-      n = n;
-      whole = not-not-eq (length xs) (row-width * n) (λ h. no (λ r. h (omega arith)));
-      some = not-not-le 1 n (λ h. no (λ r. h (omega arith)));
-      few = not-not-le n most-rows (λ h. no (λ r. h (omega arith)));
+      low = not-not-le 1 x (λ g. n (λ w. g (w .low)));
+      high = not-not-le x most (λ g. n (λ w. g (w .high)));
     }
 
-pub shape-of-rows : (xs : List ℕ) → Rows row-width xs → Clear (shape xs)
-shape-of-rows xs r place h = h .1 r
+-- a row of which no number is at fault is sound
+module _ (tb : Table) (i : ℕ) (none : (at : ℕ) → NumberAtFault tb i at → ⊥) where
+  start : StartAtFault (tb .S i) (tb .M i) → ⊥
+  start f = none (row-width * i + 3) (inr (inr (inr (inl (refl, f)))))
 
--- the range of its numbers
-pub within-of-range : (xs : List ℕ) → Clear (range xs) → (i : ℕ) → i < length xs → Within (getD xs i 0)
-within-of-range xs clear i h =
-    let none : (Within (getD xs i 0) → ⊥) → ⊥ = λ w. no-least clear i (h, w) in
-    record {
-      low = not-not-le 1 (getD xs i 0) (λ g. none (λ w. g (w .low)));
-      high = not-not-le (getD xs i 0) most (λ g. none (λ w. g (w .high)));
-    }
+  region : RegionAtFault (tb .C i) (tb .S i) (tb .M i) → ⊥
+  region f = none (row-width * i + 4) (inr (inr (inr (inr (refl, f)))))
 
-pub range-of-within : (xs : List ℕ) → ((i : ℕ) → i < length xs → Within (getD xs i 0)) → Clear (range xs)
-range-of-within xs within place l = l .holds .1 (within place (l .holds .0))
+  C : Within (tb .C i)
+  C = not-not-within (tb .C i) (λ w. none (row-width * i) (inl (refl, w)))
+
+  no-start : tb .M i ≡ 0 → tb .S i ≡ 0
+  no-start e = by-le 1 (tb .S i) (λ l. absurd (start (inr (l, e)))) (λ l. omega arith)
+
+  ends : region-end tb i < tb .C i
+  ends =
+      by-le (tb .C i) (region-end tb i)
+      (λ l. by-eq (tb .M i) 0
+      (λ e. omega (arith, no-start e, C))
+      (λ e. absurd (region (omega arith, l))))
+      (λ l. l)
+
+  row-sound : SoundRow tb i
+  row-sound =
+      record {
+        C = C;
+        D = not-not-within (tb .D i) (λ w. none (row-width * i + 1) (inr (inl (refl, w))));
+        T = not-not-within (tb .T i) (λ w. none (row-width * i + 2) (inr (inr (inl (refl, w)))));
+        region = ends;
+        none = no-start;
+      }
 
 -- a table that the checks 1 and 3 do not refuse is sound
 pub sound-of-clear : (xs : List ℕ) → Clear (shape xs) → Clear (range xs) → Sound (tableOf xs)
 sound-of-clear xs s r =
-    let rows = rows-of-shape xs s in
+    let rows = rows-of-shape row-width xs s in
     record {
       some = omega arith;
       few = omega arith;
-      row =
-          λ i h.
-          record {
-            C = within-of-range xs r (row-width * i) (omega arith);
-            D = within-of-range xs r (row-width * i + 1) (omega arith);
-            T = within-of-range xs r (row-width * i + 2) (omega arith);
-          };
+      row = λ i h. row-sound (tableOf xs) i (λ at f. no-least r at (i, h, f));
     }
 
 pub clear-of-sound : (xs : List ℕ) → length xs ≡ row-width * tableOf xs .n → Sound (tableOf xs) →
     Clear (shape xs) × Clear (range xs)
 clear-of-sound xs whole s = (
-  shape-of-rows xs (record { n = tableOf xs .n; whole = whole; some = s .some; few = s .few }),
-  range-of-within xs within,
+  shape-of-rows row-width xs (record { n = tableOf xs .n; whole = whole; some = s .some; few = s .few }),
+  λ place l.
+      let i = l .holds .0 in
+      let row = s .row i (l .holds .1) in
+      by-number (tableOf xs) i (λ _ f. f (row .C)) (λ _ f. f (row .D)) (λ _ f. f (row .T))
+      (λ _. ⊎-elim (λ f. omega (arith, row .region, row .C)) (λ f. omega (arith, f, row .none (f .1))))
+      (λ _ f. omega (arith, f, row .region))
+      (l .holds .2),
 )
-  where
-    within : (i : ℕ) → i < length xs → Within (getD xs i 0)
-    within i h =
-        let r = i / row-width in
-        let l : r < tableOf xs .n = omega arith in
-        by-eq i (row-width * r)
-        (λ e. rw (← e) at (s .row r l .C))
-        (λ c. by-eq i (row-width * r + 1)
-        (λ e. rw (← e) at (s .row r l .D))
-        (λ d. let e : i ≡ row-width * r + 2 = omega arith in rw (← e) at (s .row r l .T)))
 
 -- a plan that the check 6 does not refuse is well formed
 pub plan-of-clear : (tb : Table) (ps : List ℕ) → Clear (plan-form tb ps) →

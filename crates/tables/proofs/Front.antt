@@ -10,6 +10,7 @@ use Rattle.tables.specs.Table.{Table, Sound, row-width, most-rows, table
 use Rattle.tables.specs.Refusal.{Clear, Result, bare, Refused}
 use Rattle.tables.specs.Checks.{shape, range, plan-form, room}
 use Rattle.tables.specs.Answer.{resultOf}
+use Rattle.tables.specs.inside.Rows.{SoundSlice}
 use Rattle.tables.specs.inside.Checked.{TableChecked, PlanChecked}
 use Rattle.tables.specs.declared.Answer.the-variants.{Shape, Range, Plan, Room}
 use Rattle.tables.specs.declared.TableCheck.{TableCheck}
@@ -36,21 +37,24 @@ module _ (xs : List ℕ) {k : TableCheck} (w : TableChecked xs k) where
     clear : Clear (shape xs) × Clear (range xs) × (length xs ≡ row-width * n)
     clear = subst (TableChecked xs) e w
 
-    pub table-sound : Sound (tableOf xs)
+    table-sound : Sound (tableOf xs)
     table-sound = sound-of-clear xs (clear .0) (clear .1)
 
-    pub rows-ask : (n ≤ most-rows) × (length xs ≡ row-width * n)
-    rows-ask = let s = table-sound in let l = clear .2 in (omega arith, l)
+    pub slice-sound : SoundSlice xs
+    slice-sound = record { sound = table-sound; whole = let l = clear .2 in omega arith }
 
-    -- the table that is made of it
-    module _ {tb : Table} (same : tb ≡ tableOf xs) where
-      pub rows-sound : Sound tb
-      rows-sound = subst Sound (sym same) table-sound
+    pub rest-answers : (X : Table → Result → Type 0) {out : List ℕ} {r : Result} → X (tableOf xs) r →
+        Refused bare (shape xs) out r
+        ⊎ (Clear (shape xs) × (Refused bare (range xs) out r ⊎ (Clear (range xs) × X (tableOf xs) r)))
+    rest-answers X x = clear .0 past clear .1 past x
 
-      pub rest-answers : (X : Table → Result → Type 0) {out : List ℕ} {r : Result} → X tb r →
-          Refused bare (shape xs) out r
-          ⊎ (Clear (shape xs) × (Refused bare (range xs) out r ⊎ (Clear (range xs) × X (tableOf xs) r)))
-      rest-answers X {out} {r} x = clear .0 past clear .1 past subst (λ t. X t r) same x
+-- the rows of a slice that is let through
+module _ {xs : List ℕ} (s : SoundSlice xs) where
+  pub rows-ask : (tableOf xs .n ≤ most-rows) × (length xs ≡ row-width * tableOf xs .n)
+  rows-ask = (s .sound .few, s .whole)
+
+  pub rows-sound : {tb : Table} → tb ≡ tableOf xs → Sound tb
+  rows-sound same = subst Sound (sym same) (s .sound)
 
 -- the check 6
 module _ (tb : Table) (ps : List ℕ) {k : PlanCheck} (w : PlanChecked tb ps k) where

@@ -1,6 +1,7 @@
 -- The laws of the crate `tables`.
 pub mod Rows
 pub mod Plan
+pub mod Numbers
 pub mod Clear
 pub mod Checked
 pub mod Answered

@@ -10,12 +10,14 @@ use Rattle.tables.specs.Table.{row-width, tableOf}
 use Rattle.tables.specs.inside.Rows.{no, tableIn}
 use Rattle.tables.specs.declared.Row.{Row}
 
--- the i-th three numbers of a slice
+-- the i-th five numbers of a slice
 abbrev pub rowAt : List ℕ → ℕ → Row
 rowAt xs i = record {
   c = getD xs (row-width * i) 0;
   d = getD xs (row-width * i + 1) 0;
   t = getD xs (row-width * i + 2) 0;
+  start = getD xs (row-width * i + 3) 0;
+  region = getD xs (row-width * i + 4) 0;
 }
 
 -- A list holds f below i, and z from i on.
@@ -55,6 +57,8 @@ table-rows rows xs n whole h =
       C = λ i. at (λ r. r .c) i (past i (row-width * i) (λ g. omega arith)) x;
       D = λ i. at (λ r. r .d) i (past i (row-width * i + 1) (λ g. omega arith)) x;
       T = λ i. at (λ r. r .t) i (past i (row-width * i + 2) (λ g. omega arith)) x;
+      S = λ i. at (λ r. r .start) i (past i (row-width * i + 3) (λ g. omega arith)) x;
+      M = λ i. at (λ r. r .region) i (past i (row-width * i + 4) (λ g. omega arith)) x;
     }
   where
     past : (i k : ℕ) → (n ≤ i → length xs ≤ k) → n ≤ i → 0 ≡ getD xs k 0

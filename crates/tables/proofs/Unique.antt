@@ -74,4 +74,6 @@ plan-checked-unique tb ps (AtFault a) (AtFault b) p q = ap AtFault (plan-form-pl
 
 -- the rows of a task table: two arrays of one length that hold one table
 pub rows-unique : (a b : List Row) (n : ℕ) → length a ≡ length b → tableIn a n ≡ tableIn b n → a ≡ b
-rows-unique a b n l e = ext-getD no a b l (λ k h i. record { c = e i .C k; d = e i .D k; t = e i .T k })
+rows-unique a b n l e =
+    ext-getD no a b l
+    (λ k h i. record { c = e i .C k; d = e i .D k; t = e i .T k; start = e i .S k; region = e i .M k })

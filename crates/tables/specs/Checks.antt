@@ -1,12 +1,12 @@
--- The checks of task tables, plans, job lists and outputs: document 01, "Numbers of refusal", lines 2 to 7, with
--- rows, jobs and the numbers of a slice counted from 0.
+-- The checks of task tables, plans, job lists and outputs: document 01, "Numbers of refusal", lines 2 to 7, as request
+-- (ii) of document 02 has them, with rows, jobs and the numbers of a slice counted from 0.
 use Prim.Native.Nat.{ℕ, _+_, _*_, _≤_, _<_}
 use mathlib.Core.Path.{_≡_}
 use mathlib.Core.Logic.{_⊎_}
 use mathlib.Core.List.{List, _∷_}
-use lib.ListN.{length, getD}
+use lib.ListN.{length}
 use Rattle.counting.specs.Least.{Least}
-use Rattle.tables.specs.Table.{Table, Within, row-width, most-rows, tableOf}
+use Rattle.tables.specs.Table.{Table, Within, row-width, most-rows, most, tableOf}
 use Rattle.tables.specs.Plan.{Plan, plan-width, cap, planOf}
 use Rattle.tables.specs.Jobs.{Jobs, job-width, most-jobs, last-release, jobsOf}
 use Rattle.tables.specs.Planned.{planned-width}
@@ -19,8 +19,8 @@ pub record Rows (width : ℕ) (xs : List ℕ) : Type 0 where
   pub some : 1 ≤ n
   pub few : n ≤ most-rows
 
--- 1, "not a multiple of 3": the slice is not 1 to 32 whole rows of its width, place 0; of a task table, and of a
--- planned table
+-- 1, "not a multiple of 3", and (ii), "a multiple of 5 for task tables": the slice is not 1 to 32 whole rows of its
+-- width, place 0; of a task table, and of a planned table
 abbrev pub rows-shape : ℕ → List ℕ → Check
 rows-shape width xs = record { number = 1; hits = λ place. (place ≡ 0) × (Rows width xs → ⊥) }
 
@@ -30,9 +30,28 @@ shape xs = rows-shape row-width xs
 abbrev pub planned-shape : List ℕ → Check
 planned-shape ys = rows-shape planned-width ys
 
--- 3, "a number outside": some number is 0 or above 1,000,000, and the place is the least index of one
+-- a start S of a middle region of length M is at fault: above 1,000,000, or (ii), "a start but no length"
+abbrev pub StartAtFault : ℕ → ℕ → Type 0
+StartAtFault S M = (most < S) ⊎ ((1 ≤ S) × (M ≡ 0))
+
+-- its length is at fault: (ii), "ends later than C less 1"
+abbrev pub RegionAtFault : ℕ → ℕ → ℕ → Type 0
+RegionAtFault C S M = (1 ≤ M) × (C ≤ S + M)
+
+-- "a number outside": one of the five numbers of row i is at fault, and `at` is its index in the slice
+abbrev pub NumberAtFault : Table → ℕ → ℕ → Type 0
+NumberAtFault tb i at =
+    ((at ≡ row-width * i) × (Within (tb .C i) → ⊥))
+    ⊎ ((at ≡ row-width * i + 1) × (Within (tb .D i) → ⊥))
+    ⊎ ((at ≡ row-width * i + 2) × (Within (tb .T i) → ⊥))
+    ⊎ ((at ≡ row-width * i + 3) × StartAtFault (tb .S i) (tb .M i))
+    ⊎ ((at ≡ row-width * i + 4) × RegionAtFault (tb .C i) (tb .S i) (tb .M i))
+
+-- 3, (ii), "the least such index": some number of some row is at fault, and the place is the least index of one
 abbrev pub range : List ℕ → Check
-range xs = record { number = 3; hits = Least (λ i. (i < length xs) × (Within (getD xs i 0) → ⊥)) 0 }
+range xs =
+    let tb = tableOf xs in
+    record { number = 3; hits = Least (λ at. (i : ℕ) × (i < tb .n) × NumberAtFault tb i at) 0 }
 
 -- "rank of an earlier row": some row before row i in the table has the same rank
 abbrev pub RankTaken : (ℕ → ℕ) → ℕ → Type 0
@@ -42,7 +61,7 @@ RankTaken rank i = (j : ℕ) × (j < i) × (rank j ≡ rank i)
 abbrev pub RankAtFault : ℕ → (ℕ → ℕ) → ℕ → Type 0
 RankAtFault n rank i = (((1 ≤ rank i) × (rank i ≤ n)) → ⊥) ⊎ RankTaken rank i
 
--- "length outside 1 to C": the length of row i is 0 or above the most that it may be
+-- "length outside", (ii), "exceeds its new cap": the length of row i is 0 or above the most that it may be
 abbrev pub LengthAtFault : Table → Plan → ℕ → Type 0
 LengthAtFault tb p i = ((1 ≤ p .len i) × (p .len i ≤ cap tb i)) → ⊥
 

@@ -1,9 +1,10 @@
--- Plans: document 01, "Tables", the item "Plan for times".
-use Prim.Native.Nat.{ℕ, _+_, _*_, _≤_, _<_}
+-- Plans: document 01, "Tables", the item "Plan for times"; what a row's two regions mean for it: request (ii) of
+-- document 02.
+use Prim.Native.Nat.{ℕ, _+_, _-_, _*_, max, _≤_, _<_}
 use mathlib.Core.Path.{_≡_}
 use mathlib.Core.List.{List}
 use lib.ListN.{getD}
-use Rattle.tables.specs.Table.{Table}
+use Rattle.tables.specs.Table.{Table, region-end}
 
 -- rank i the rank (1 is highest) and len i the length of the final region of row i
 pub record Plan : Type 0 where
@@ -18,13 +19,14 @@ plan-width = 2
 abbrev pub planOf : List ℕ → Plan
 planOf ps = record { rank = λ i. getD ps (plan-width * i) 0; len = λ i. getD ps (plan-width * i + 1) 0 }
 
--- "1 to C": the most that the length of a row's final region may be
+-- (ii), "C less the region's end": the most that the length of a row's final region may be. The law `cap-whole` says
+-- that nothing is cut off in a sound row.
 unfoldable pub cap : Table → ℕ → ℕ
-cap tb i = tb .C i
+cap tb i = tb .C i - region-end tb i
 
--- "the largest length below": what row j blocks with where the length of its final region is q, which is that length
+-- (ii), "the longer of a row's two regions": what row j blocks with where the length of its final region is q
 unfoldable pub longer : Table → ℕ → ℕ → ℕ
-longer tb j q = q
+longer tb j q = max (tb .M j) q
 
 -- what row j of a plan blocks with
 abbrev pub blocks : Table → Plan → ℕ → ℕ

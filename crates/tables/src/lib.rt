@@ -1,17 +1,18 @@
 // Task tables, plans and job lists: their rows as structs, their checks, and the answers that the operations share.
 ghost use mathlib.Core.Path.{_≡_};
+ghost use mathlib.Core.Logic.{_⊎_};
 ghost use Prim.Native.Nat.{_+_, _*_, _<_, _≤_};
 ghost use lib.ListN.{length};
-ghost use Rattle.tables.specs.Table.{tableOf, row-width, most-rows};
+ghost use Rattle.tables.specs.Table.{Within, Sound, tableOf, row-width, most-rows};
 ghost use Rattle.tables.specs.Plan.{planOf, plan-width};
-ghost use Rattle.tables.specs.Checks.{RowAtFault, RankAtFault, RankTaken};
+ghost use Rattle.tables.specs.Checks.{StartAtFault, RegionAtFault, RankAtFault, RankTaken};
 ghost use Rattle.tables.specs.Answer.{numberOf, placeOf, valueOf};
-ghost use Rattle.tables.specs.inside.Rows.{tableIn, capIn};
-ghost use Rattle.tables.specs.inside.Checked.{Says, FirstOutside, TableChecked, PlanChecked};
+ghost use Rattle.tables.specs.inside.Rows.{tableIn, capIn, longerIn, EndsBeforeRun, LengthAtFaultIn};
+ghost use Rattle.tables.specs.inside.Checked.{Says, FaultInRow, FirstFault, TableChecked, PlanChecked};
 
 // How many numbers a row of a task table has, a row of a plan, a row of a planned table, a row of an output of times,
 // and a job of a job list.
-pub const ROW_WIDTH: usize = 3;
+pub const ROW_WIDTH: usize = 5;
 
 pub const PLAN_WIDTH: usize = 2;
 
@@ -84,11 +85,13 @@ fn refused(number: u32, place: u32) -> Said
     }
 }
 
-// One row of a task table.
+// One row of a task table: its run, deadline and spacing, and the start and the length of its middle region.
 pub struct Row {
     pub c: u32,
     pub d: u32,
     pub t: u32,
+    pub start: u32,
+    pub region: u32,
 }
 
 // What the checks of a task table answer: sound, with its number of rows; or refused, with the place where the refusal
@@ -106,22 +109,92 @@ pub enum PlanCheck {
     AtFault(u32),
 }
 
-// The index of the first number outside 1 to 1,000,000, or the length where there is none.
-fn first_outside(xs: &[u32]) -> usize
-    ensures { λ r. ⌜ FirstOutside (now (xs .entry)) r ⌝ }
+// Whether a run, a deadline or a spacing is outside 1 to 1,000,000.
+fn outside(x: u32) -> bool
+    ensures { λ r. ⌜ Says r (Within x → ⊥) ⌝ }
 {
-    let mut at: usize = 0;
-    while at < xs.len() {
-        let x = xs[at];
-        if x < 1 {
-            return at;
-        }
-        if MOST < x {
-            return at;
-        }
-        at += 1;
+    if x < 1 {
+        return true;
     }
-    at
+    if MOST < x {
+        return true;
+    }
+    false
+}
+
+// Whether the start of a middle region is too large, or stands without a length.
+fn start_at_fault(start: u32, region: u32) -> bool
+    ensures { λ r. ⌜ Says r (StartAtFault start region) ⌝ }
+{
+    if MOST < start {
+        return true;
+    }
+    if 0 < region {
+        return false;
+    }
+    if 0 < start {
+        return true;
+    }
+    false
+}
+
+// Whether a middle region ends later than C less 1: what C leaves behind the start cannot wrap, as their sum could.
+fn region_at_fault(c: u32, start: u32, region: u32) -> bool
+    ensures { λ r. ⌜ Says r (RegionAtFault c start region) ⌝ }
+{
+    if region < 1 {
+        return false;
+    }
+    if c < start {
+        return true;
+    }
+    if c - start <= region {
+        return true;
+    }
+    false
+}
+
+// The index of the first number of row i that is at fault, or that of the next row where none is.
+fn fault_in_row(xs: &[u32], i: usize) -> usize
+    requires { ⌜ i < tableOf (now xs) .n ⌝ }
+    ensures { λ r. ⌜ FaultInRow (tableOf (now (xs .entry))) i r ⌝ }
+{
+    let at = ROW_WIDTH * i;
+    let c = xs[at];
+    let start = xs[at + 3];
+    let region = xs[at + 4];
+    if outside(c) {
+        return at;
+    }
+    if outside(xs[at + 1]) {
+        return at + 1;
+    }
+    if outside(xs[at + 2]) {
+        return at + 2;
+    }
+    if start_at_fault(start, region) {
+        return at + 3;
+    }
+    if region_at_fault(c, start, region) {
+        return at + 4;
+    }
+    at + ROW_WIDTH
+}
+
+// The index of the first number at fault, or the length where there is none.
+fn first_fault(xs: &[u32]) -> usize
+    ensures { λ r. ⌜ FirstFault (now (xs .entry)) r ⌝ }
+{
+    let n = xs.len() / ROW_WIDTH;
+    let mut passed: usize = 0;
+    while passed < n {
+        let at = fault_in_row(xs, passed);
+        if at < ROW_WIDTH * passed + ROW_WIDTH {
+            return at;
+        }
+        passed += 1;
+    }
+    xs.len()
 }
 
 // The checks 1 and 3 of a task table.
@@ -138,7 +211,7 @@ pub fn check_table(xs: &[u32]) -> TableCheck
     if len % ROW_WIDTH != 0 {
         return TableCheck::Shape;
     }
-    let at = first_outside(xs);
+    let at = first_fault(xs);
     if at < len {
         return TableCheck::Range(at as u32);
     }
@@ -150,7 +223,13 @@ pub fn rows_of(xs: &[u32], n: usize) -> [Row; 32]
     requires { ⌜ (n ≤ most-rows) × (length (now xs) ≡ row-width * n) ⌝ }
     ensures { λ r. ⌜ tableIn r n ≡ tableOf (now (xs .entry)) ⌝ }
 {
-    let mut rows = [Row { c: 0, d: 0, t: 0 }; 32];
+    let mut rows = [Row {
+        c: 0,
+        d: 0,
+        t: 0,
+        start: 0,
+        region: 0,
+    }; 32];
     let mut i: usize = 0;
     while i < n {
         let at = ROW_WIDTH * i;
@@ -158,17 +237,27 @@ pub fn rows_of(xs: &[u32], n: usize) -> [Row; 32]
             c: xs[at],
             d: xs[at + 1],
             t: xs[at + 2],
+            start: xs[at + 3],
+            region: xs[at + 4],
         };
         i += 1;
     }
     rows
 }
 
-// The most that the length of a row's final region may be.
+// The most that the length of a row's final region may be: what is left of C behind the middle region.
 pub fn cap(row: Row) -> u32
+    requires { ⌜ EndsBeforeRun row ⌝ }
     ensures { λ r. ⌜ r ≡ capIn row ⌝ }
 {
-    row.c
+    row.c - (row.start + row.region)
+}
+
+// What a row blocks with where the length of its final region is `len`: the longer of its two regions.
+pub fn longer(row: Row, len: u32) -> u32
+    ensures { λ r. ⌜ r ≡ longerIn row len ⌝ }
+{
+    counting::larger(row.region, len)
 }
 
 // Whether an earlier row of the plan has the rank of row i.
@@ -206,7 +295,8 @@ fn rank_at_fault(plan: &[u32], n: usize, i: usize) -> bool
 
 // Whether a row is at fault by its length.
 fn length_at_fault(row: Row, len: u32) -> bool
-    ensures { λ r. ⌜ Says r (((1 ≤ len) × (len ≤ capIn row)) → ⊥) ⌝ }
+    requires { ⌜ EndsBeforeRun row ⌝ }
+    ensures { λ r. ⌜ Says r (LengthAtFaultIn row len) ⌝ }
 {
     if len < 1 {
         return true;
@@ -217,12 +307,12 @@ fn length_at_fault(row: Row, len: u32) -> bool
     false
 }
 
-// Whether row i of the plan is at fault.
-fn row_at_fault(rows: [Row; 32], n: usize, plan: &[u32], i: usize) -> bool
-    requires { ⌜ (i < n) × (n ≤ most-rows) × (length (now plan) ≡ plan-width * n) ⌝ }
-    ensures { λ r. ⌜ Says r (RowAtFault (tableIn rows n) (planOf (now (plan .entry))) i) ⌝ }
+// Whether row i of a plan of n rows is at fault.
+fn row_at_fault(row: Row, n: usize, plan: &[u32], i: usize) -> bool
+    requires { ⌜ EndsBeforeRun row × (i < n) × (n ≤ most-rows) × (length (now plan) ≡ plan-width * n) ⌝ }
+    ensures { λ r. ⌜ Says r (RankAtFault n (planOf (now (plan .entry)) .rank) i
+        ⊎ LengthAtFaultIn row (planOf (now (plan .entry)) .len i)) ⌝ }
 {
-    let row = rows[i];
     if rank_at_fault(plan, n, i) {
         return true;
     }
@@ -231,7 +321,7 @@ fn row_at_fault(rows: [Row; 32], n: usize, plan: &[u32], i: usize) -> bool
 
 // The check 6 of a plan.
 pub fn check_plan(rows: [Row; 32], n: usize, plan: &[u32]) -> PlanCheck
-    requires { ⌜ n ≤ most-rows ⌝ }
+    requires { ⌜ Sound (tableIn rows n) ⌝ }
     ensures { λ r. ⌜ PlanChecked (tableIn rows n) (now (plan .entry)) r ⌝ }
 {
     if plan.len() != PLAN_WIDTH * n {
@@ -239,7 +329,7 @@ pub fn check_plan(rows: [Row; 32], n: usize, plan: &[u32]) -> PlanCheck
     }
     let mut row: usize = 0;
     while row < n {
-        if row_at_fault(rows, n, plan, row) {
+        if row_at_fault(rows[row], n, plan, row) {
             return PlanCheck::AtFault(row as u32);
         }
         row += 1;

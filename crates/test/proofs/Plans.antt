@@ -58,7 +58,7 @@ longest-le tb p p′ r r′ h =
 
 -- the blocking and the rows of U, none of them below r, ask for no more than all the rows
 pub room : (tb : Table) (p : Plan) (r : ℕ) (U : ℕ → Bool) → Positive tb →
-    ((j : ℕ) → j < tb .n → r < p .rank j → (U j ≡ false) × (p .len j ≤ cap tb j)) →
+    ((j : ℕ) → j < tb .n → r < p .rank j → (U j ≡ false) × (1 ≤ p .len j) × (p .len j ≤ cap tb j)) →
     (t : ℕ) → 1 ≤ t → blocking tb p r + load before tb U t ≤ busy-side tb t
 unfolding busy-side
 room tb p r U pos out t h =
@@ -71,7 +71,7 @@ room tb p r U pos out t h =
     (λ k _ u. without-intro every-row j k (λ q. not-both (U k) (ap U q ∙ o .0) u) refl) t in
     omega (
       arith,
-      longer-run tb j (o .1),
+      longer-run tb j (o .1) (o .2),
       blocking-is tb p r,
       load-without tb before every-row j t l refl,
       run-asked tb pos j t l h,
@@ -107,7 +107,7 @@ module _ (tb : Table) (sound : Sound tb) (w : BusyWithin tb) (p : Plan) (wf : We
         let r = p .rank i in
         let out : (j : ℕ) → r < p .rank j → level j ≡ false =
         λ j lower. by-bool (level j) (λ e. absurd (omega (arith, leb-true (p .rank j) r e))) (λ e. e) in
-        let all = room tb p r level pos (λ j g lower. (out j lower, wf .len-high j g)) t h in
+        let all = room tb p r level pos (λ j g lower. (out j lower, wf .len-low j g, wf .len-high j g)) t h in
         let higher = load-sub tb before P (without level i)
         (λ j _ e.
         let lt = ltb-true (p .rank j) r e in

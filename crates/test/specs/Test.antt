@@ -94,7 +94,8 @@ above p r j = ltb (p .rank j) r
 abbrev pub below : Plan → ℕ → ℕ → Bool
 below p r j = ltb r (p .rank j)
 
--- the most that a row below blocks with, 0 where there is nothing below
+-- request (ii) of document 02, "the longer of a row's two regions": the most that a row below blocks with, 0 where
+-- there is nothing below
 unfoldable pub longest : Table → Plan → ℕ → ℕ
 longest tb p r = largest (λ j. given (below p r j) (blocks tb p j)) (tb .n)
 

@@ -2,8 +2,8 @@
 ghost use mathlib.Core.List.{[]};
 ghost use Prim.Native.Nat.{_*_, _≤_};
 ghost use lib.ListN.{length};
-ghost use Rattle.tables.specs.Table.{Sound, most-rows};
-ghost use Rattle.tables.specs.inside.Rows.{tableIn};
+ghost use Rattle.tables.specs.Table.{most-rows, tableOf};
+ghost use Rattle.tables.specs.inside.Rows.{tableIn, SoundSlice};
 ghost use Rattle.tables.specs.Answer.{resultOf};
 ghost use Rattle.tables.specs.inside.Checked.{Says};
 ghost use Rattle.test.specs.Answers.{TimesAnswer, VerdictAnswer, times-width};
@@ -12,6 +12,7 @@ use sides::ASK_WIDTH;
 use sides::periods::Busy;
 use tables::Answer;
 use tables::PlanCheck;
+use tables::ROW_WIDTH;
 use tables::Row;
 use tables::TIMES_WIDTH;
 use tables::TableCheck;
@@ -45,11 +46,13 @@ fn in_time(rows: [Row; 32], n: usize, times: [u32; 32]) -> bool
 }
 
 // times, once the table is sound: the checks 6, 2 and 4, then the times. Nothing is written before all checks are made.
-fn times_of(rows: [Row; 32], n: usize, plan: &[u32], out: &mut [u32]) -> Answer
-    requires { ⌜ Sound (tableIn rows n) ⌝ }
-    ensures { λ r. ⌜ TimesRest (now (plan .entry)) (now (out .entry)) (tableIn rows n)
+fn times_of(table: &[u32], plan: &[u32], out: &mut [u32]) -> Answer
+    requires { ⌜ SoundSlice (now table) ⌝ }
+    ensures { λ r. ⌜ TimesRest (now (plan .entry)) (now (out .entry)) (tableOf (now (table .entry)))
         (resultOf r (now (out .exit))) ⌝ }
 {
+    let n = table.len() / ROW_WIDTH;
+    let rows = tables::rows_of(table, n);
     let form = tables::check_plan(rows, n, plan);
     if let PlanCheck::AtFault(at) = form {
         return Answer::Plan(at);
@@ -57,7 +60,7 @@ fn times_of(rows: [Row; 32], n: usize, plan: &[u32], out: &mut [u32]) -> Answer
     if out.len() < TIMES_WIDTH * n {
         return Answer::Room;
     }
-    let all = sides::asks_of(rows, n);
+    let all = sides::asks_of(table);
     let asks = &all[..ASK_WIDTH * n];
     let busy = sides::periods::busy_period(asks);
     if let Busy::Beyond = busy {
@@ -68,15 +71,17 @@ fn times_of(rows: [Row; 32], n: usize, plan: &[u32], out: &mut [u32]) -> Answer
 }
 
 // verdict, once the table is sound: the checks 6 and 4, then the times against the deadlines.
-fn verdict_of(rows: [Row; 32], n: usize, plan: &[u32]) -> Answer
-    requires { ⌜ Sound (tableIn rows n) ⌝ }
-    ensures { λ r. ⌜ VerdictRest (now (plan .entry)) (tableIn rows n) (resultOf r []) ⌝ }
+fn verdict_of(table: &[u32], plan: &[u32]) -> Answer
+    requires { ⌜ SoundSlice (now table) ⌝ }
+    ensures { λ r. ⌜ VerdictRest (now (plan .entry)) (tableOf (now (table .entry))) (resultOf r []) ⌝ }
 {
+    let n = table.len() / ROW_WIDTH;
+    let rows = tables::rows_of(table, n);
     let form = tables::check_plan(rows, n, plan);
     if let PlanCheck::AtFault(at) = form {
         return Answer::Plan(at);
     }
-    let all = sides::asks_of(rows, n);
+    let all = sides::asks_of(table);
     let asks = &all[..ASK_WIDTH * n];
     let busy = sides::periods::busy_period(asks);
     if let Busy::Beyond = busy {
@@ -97,7 +102,7 @@ pub fn times(table: &[u32], plan: &[u32], out: &mut [u32]) -> Answer
     match checked {
         TableCheck::Shape => Answer::Shape,
         TableCheck::Range(at) => Answer::Range(at),
-        TableCheck::Sound(n) => times_of(tables::rows_of(table, n), n, plan, out),
+        TableCheck::Sound(_) => times_of(table, plan, out),
     }
 }
 
@@ -109,6 +114,6 @@ pub fn verdict(table: &[u32], plan: &[u32]) -> Answer
     match checked {
         TableCheck::Shape => Answer::Shape,
         TableCheck::Range(at) => Answer::Range(at),
-        TableCheck::Sound(n) => verdict_of(tables::rows_of(table, n), n, plan),
+        TableCheck::Sound(_) => verdict_of(table, plan),
     }
 }

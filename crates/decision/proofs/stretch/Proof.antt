@@ -1,15 +1,12 @@
--- `stretch` meets its contract: each way out ends with the job or at the next release, and a job that is locked there
--- stays locked to its end.
+-- `stretch` meets its contract: each way out ends with the job or, from the next release on, as soon as it is not
+-- locked.
 use Prim.Native.Nat.{_+_, _-_, _<_}
-use mathlib.Core.Path.{_≡_, sym, _∙_}
+use mathlib.Core.Path.{_≡_}
 use native.Mathlib.Omega.{arith}
 use borrow.Author.Needs.{needs}
-use mathlib.Core.Logic.{inl, inr}
+use mathlib.Core.Logic.{inl, inr, ⊎-elim}
 use Rattle.counting.proofs.Cases.{by-le}
-use Rattle.tables.specs.Table.{tableOf}
-use Rattle.tables.specs.Plan.{planOf}
 use Rattle.tables.specs.Jobs.{jobsOf}
-use Rattle.kernel.proofs.Steady.{locked-on}
 use Rattle.decision.proofs.stretch.Statement.{statement}
 use Rattle.decision.proofs.stretch.Tie as tie
 
@@ -46,39 +43,35 @@ returns-2 c =
       ends = inl (omega arith);
     }
 
-held-requires : tie.Need-held-requires
-held-requires c κs = let b = c .before in (s b .pre .0, s b .pre .1, omega (arith, later b))
+held-to-requires : tie.Need-held-to-requires
+held-to-requires c κs =
+    let b = c .before in
+    let z = s b in
+    (z .pre .0, z .pre .1, omega (arith, later b), z .pre .3)
 
+-- on from the release for as long as it is locked
 returns-3 : tie.Need-returns-3
 returns-3 c =
-    let b = c .before .before .before in
-    let e = s b .args .e in
-    let until = jobsOf (s b .args .jobs .now) .release (s b .args .next) - s b .args .t in
-    let left = s b .pre .2 in
-    let on = locked-on (tableOf (s b .args .table .now)) (planOf (s b .args .plan .now)) (s b .args .i) (e + until) in
-    record {
-      some = omega arith;
-      within = omega arith;
-      calm = λ x h m. by-le until x
-          (λ g.
-          let same : e + until + (x - until) ≡ e + x = omega arith in
-          inr (rw same at (on (x - until) (sym (c .before .held .ensures) ∙ c .if3 .taken))))
-          (λ g. inl (omega arith));
-      ends = inl (omega arith);
-    }
-
-returns-4 : tie.Need-returns-4
-returns-4 c =
-    let b = c .before .before .before in
+    let b = c .before .before in
+    let z = s b in
+    let until = jobsOf (z .args .jobs .now) .release (z .args .next) - z .args .t in
+    let h = c .held-to .ensures in
     let later = later b in
     record {
-      some = omega arith;
-      within = omega arith;
-      calm = λ x h m. inl (omega arith);
-      ends = inr (comes b, omega arith, sym (c .before .held .ensures) ∙ c .if3 .left);
+      some = omega (arith, h .low);
+      within = omega (arith, h .low, h .high);
+      calm = λ x l m. by-le until x
+          (λ g. inr (h .held (z .args .e + x) (omega arith) (omega (arith, h .low))))
+          (λ g. inl (omega arith));
+      ends = ⊎-elim
+          (λ q. inl (omega (arith, h .low)))
+          (λ q.
+          let same : z .args .e + (c .held-to .result - z .args .e) ≡ c .held-to .result = omega (arith, h .low) in
+          inr (comes b, omega (arith, h .low), rw same q))
+          (h .ends);
     }
 
 pub stretch-spec : {M : Type 1} → statement M
 stretch-spec = tie.close (tie.spec (λ c. search needs) returns (λ c. search needs) (λ c. search needs)
-    (λ c. search needs) (λ c. search needs) (λ c. omega (arith, later c)) returns-2 (λ c. search needs) held-requires
-    returns-3 returns-4)
+    (λ c. search needs) (λ c. search needs) (λ c. omega (arith, later c)) returns-2 (λ c. search needs)
+    held-to-requires (λ c. omega (arith, c .held-to .ensures .low)) returns-3)

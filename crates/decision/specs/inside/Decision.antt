@@ -52,6 +52,14 @@ pub record Foremost (order heads : List ℕ) (n next r : ℕ) : Type 0 where
   pub waits : r < n → getD heads (getD order r 0) 0 < next
   pub none : (s : ℕ) → s < r → next ≤ getD heads (getD order s 0) 0
 
+-- a job of row i, of which e ticks of its run are executed, is locked until d are, which are all of its run, or with
+-- which it is not locked; d is e where it is not locked at all
+pub record HeldTo (tb : Table) (p : Plan) (i e run d : ℕ) : Type 0 where
+  pub low : e ≤ d
+  pub high : d ≤ run
+  pub held : (x : ℕ) → e ≤ x → x < d → locked tb p i x ≡ true
+  pub ends : (d ≡ run) ⊎ (locked tb p i d ≡ false)
+
 -- a decision at tick t runs a job of row i, of which e ticks of its run are executed, for d ticks, one at least: in
 -- each of them the release of job `next` is still to come, or the job is locked; it ends with the job or, at that
 -- release or after it, as soon as the job is not locked

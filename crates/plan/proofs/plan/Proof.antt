@@ -1,27 +1,25 @@
--- `plan` meets its contract: the checks 1 and 3, then the rest over the rows.
+-- `plan` meets its contract: the checks 1 and 3, then the rest.
 use borrow.Author.Needs.{needs}
 use Rattle.plan.specs.inside.Given.{PlanRest}
-use Rattle.tables.proofs.Front.{shape-refuses, range-refuses, rows-ask, rows-sound, rest-answers}
+use Rattle.tables.proofs.Front.{shape-refuses, range-refuses, slice-sound, rest-answers}
 use Rattle.plan.proofs.plan.Statement.{statement}
 use Rattle.plan.proofs.plan.Tie as tie
 
 plan-of-requires : tie.Need-plan-of-requires
 plan-of-requires c κs =
-    let k = c .before .before .before in
-    rows-sound _ (k .before .before .check-table .ensures) (k .checked2 .given .1) (c .before .rows-of .ensures)
+    let k = c .before in
+    slice-sound _ (k .before .before .check-table .ensures) (k .enum-told2 .given .1)
 
 returns-3 : tie.Need-returns-3
 returns-3 c =
     let t = c .before .before in
-    let r = t .before .before in
-    let k = r .before .before in
+    let k = t .before .before in
     let s = k .before .before .before .before .before in
-    rest-answers _ (k .before .before .check-table .ensures) (k .checked2 .given .1) (r .rows-of .ensures)
+    rest-answers _ (k .before .before .check-table .ensures) (k .enum-told2 .given .1)
     (PlanRest (s .args .out .now)) (t .plan-of .ensures)
 
 pub plan-spec : {M : Type 1} → statement M
 plan-spec = tie.close (tie.spec (λ c κs. search needs) (λ c. search needs) (λ c. search needs) (λ c. search needs)
-    (λ c κs. rows-ask _ (c .before .before .before .check-table .ensures) (c .before .checked2 .given .1))
     plan-of-requires (λ c. shape-refuses _ (c .before .before .check-table .ensures) _ (c .enum-told .given .1))
     (λ c. range-refuses _ (c .before .before .before .check-table .ensures) _ _ (c .before .checked .given .1))
     (λ c. search needs) returns-3)

@@ -16,7 +16,7 @@ use Rattle.tables.specs.declared.Answer.the-variants.{JobsShape, Job}
 use Rattle.tables.proofs.Clear.{plan-of-clear, jobs-of-clear}
 use Rattle.tables.proofs.Result.{refuse}
 use Rattle.tables.proofs.Answered.{_past_}
-use Rattle.tables.proofs.Front.{form-refuses, form-clear, room-refuses, room-clear}
+use Rattle.tables.proofs.Front.{rows-ask, rows-sound, form-refuses, form-clear, room-refuses, room-clear}
 use Rattle.joblist.specs.inside.Listed.{ListSaid}
 use Rattle.play.proofs.play_sound.Statement.{statement}
 use Rattle.play.proofs.play_sound.Tie as tie
@@ -72,7 +72,7 @@ returns c =
     _ _ (c .before .form .given .1)
 
 check-jobs-requires : tie.Need-check-jobs-requires
-check-jobs-requires c κs = omega (arith, s c .pre .0 .few, s c .pre .1)
+check-jobs-requires c κs = omega (arith, s c .pre .sound .few, s c .pre .whole)
 
 returns-2 : tie.Need-returns-2
 returns-2 c =
@@ -88,7 +88,7 @@ finish-all-requires c κs =
     let b = s (f k) in
     let l = listed k in
     let p = plan-of-clear (tb b) (ps b) (form (f k)) in (
-      record { sound = b .pre .0; whole = omega (arith, b .pre .1); plan-whole = p .0; formed = p .1 },
+      record { sound = b .pre .sound; whole = b .pre .whole; plan-whole = p .0; formed = p .1 },
       jobs-of-clear (tb b) (js b) (l .1) (l .2),
       omega (arith, l .0, c .before .if1 .left),
     )
@@ -118,7 +118,11 @@ returns-5 c =
     form (f k) past l .1 past l .2 past room-clear (jobsOf (js b) .N) (os b) fits
     past record { number = refl; place = refl; given = rw (l .0) all }
 
+check-plan-requires : tie.Need-check-plan-requires
+check-plan-requires c κs = rows-sound (c .before .before .before .before .before .pre) (c .rows-of .ensures)
+
 pub play-sound-spec : {M : Type 1} → statement M
-play-sound-spec = tie.close (tie.spec (λ c κs. search needs) (λ c κs. search needs) (λ c. search needs) returns
-    (λ c. search needs) check-jobs-requires (λ c. search needs) (λ c. search needs) (λ c. search needs)
-    (λ c. search needs) returns-2 finish-all-requires returns-3 returns-4 (λ c. search needs) returns-5)
+play-sound-spec = tie.close (tie.spec (λ c κs. rows-ask (c .before .before .before .before .pre)) check-plan-requires
+    (λ c. search needs) returns (λ c. search needs) check-jobs-requires (λ c. search needs) (λ c. search needs)
+    (λ c. search needs) (λ c. search needs) returns-2 finish-all-requires returns-3 returns-4 (λ c. search needs)
+    returns-5)

@@ -1,5 +1,6 @@
 -- `fit` meets its contract.
 use mathlib.Core.Logic.{inl, inr}
+use Rattle.tables.specs.Planned.{planned-width}
 use Rattle.tables.specs.Refusal.{Clear}
 use Rattle.tables.specs.Checks.{planned-shape}
 use Rattle.tables.proofs.Clear.{shape-of-rows}
@@ -14,7 +15,7 @@ clear-shape : (c : tie.Else1) → Clear (planned-shape (c .before .before .befor
 clear-shape c =
     let r = c .before .rows in
     let n = r .ensures in
-    shape-of-rows (c .before .before .before .args .planned .now)
+    shape-of-rows planned-width (c .before .before .before .args .planned .now)
     (record { n = r .result; whole = n .whole (omega arith); some = omega arith; few = n .few })
 
 returns : tie.Need-returns

@@ -2,6 +2,7 @@
 use mathlib.Core.Logic.{inr}
 use mathlib.Core.List.{List}
 use lib.ListN.{length}
+use Rattle.tables.specs.Planned.{planned-width}
 use Rattle.tables.specs.Refusal.{Clear}
 use Rattle.tables.specs.Answer.{placeOf, valueOf}
 use Rattle.tables.specs.Checks.{planned-shape}
@@ -34,7 +35,7 @@ fits c =
 put-plan-requires : tie.Need-put-plan-requires
 put-plan-requires c κs =
     let f = fits (c .before) in
-    let r = rows-of-shape (planned (c .before .before .before)) (f .0) in (omega arith, omega arith, f .1)
+    let r = rows-of-shape planned-width (planned (c .before .before .before)) (f .0) in (omega arith, omega arith, f .1)
 
 returns : tie.Need-returns
 returns c =

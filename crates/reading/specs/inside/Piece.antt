@@ -1,6 +1,7 @@
 -- Pieces of text: what a reader may find at a place, and where it is stuck.
 use Prim.Native.Nat.{ℕ, suc, _+_, _≤_, _<_}
 use mathlib.Core.Path.{_≡_}
+use mathlib.Core.Logic.{_⊎_}
 use mathlib.Core.List.{List, [], _∷_, _++_}
 use lib.ListN.{length, take, drop}
 use Rattle.decimal.specs.Decimal.{decimal}
@@ -16,17 +17,26 @@ pub record Piece : Type 1 where
 abbrev pub wordPiece : List ℕ → Piece
 wordPiece w = record { Value = Unit {0}; text = λ _. w; Allowed = λ _. Unit {0} }
 
--- a number of 1 to most in decimal, and the byte that ends it
-abbrev pub numberPiece : ℕ → ℕ → Piece
-numberPiece most end = record { Value = ℕ; text = λ v. decimal v ++ end ∷ []; Allowed = Between most }
+-- the byte e is one of two, which may be the same
+abbrev pub OneOf : ℕ → ℕ → ℕ → Type 0
+OneOf end other e = (e ≡ end) ⊎ (e ≡ other)
 
--- one piece and another behind it
-abbrev pub both : Piece → Piece → Piece
-both P Q =
+-- a number of least to most in decimal, and the byte that ends it, one of two
+abbrev pub numberPiece : ℕ → ℕ → ℕ → ℕ → Piece
+numberPiece least most end other =
     record {
-      Value = P .Value × Q .Value;
-      text = λ v. P .text (v .0) ++ Q .text (v .1);
-      Allowed = λ v. P .Allowed (v .0) × Q .Allowed (v .1);
+      Value = ℕ × ℕ;
+      text = λ v. decimal (v .0) ++ v .1 ∷ [];
+      Allowed = λ v. Between least most (v .0) × OneOf end other (v .1);
+    }
+
+-- one piece, and behind it another that may depend on what was read of the first
+abbrev pub followed : (P : Piece) → (P .Value → Piece) → Piece
+followed P Q =
+    record {
+      Value = (v : P .Value) × Q v .Value;
+      text = λ v. P .text (v .0) ++ Q (v .0) .text (v .1);
+      Allowed = λ v. P .Allowed (v .0) × Q (v .0) .Allowed (v .1);
     }
 
 -- s does not begin with a text of the piece, and p is as far as the two go together: some text of the piece begins

@@ -13,25 +13,29 @@ use Rattle.test.specs.Test.{Response, ResponseOf}
 use Rattle.sides.specs.inside.Asks.{ask-width, many}
 use Rattle.sides.proofs.Pairs.{zeros}
 use Rattle.responses.specs.inside.Asked.{Ranked}
+use Rattle.responses.proofs.Plans.{blocking-in}
 use Rattle.responses.proofs.Row.{Placed, ranked, response-here}
 use Rattle.responses.proofs.Stored.{stored, unreached}
 use Rattle.responses.proofs.responses.Statement.{statement}
 use Rattle.responses.proofs.responses.Tie as tie
 
 abbrev Inv-loop : tie.InvT-loop
-Inv-loop rows n asks plan times₀ level₀ i₀ times level i =
+Inv-loop rows n asks plan blocks times₀ level₀ i₀ times level i =
     (i ≤ n) × (length times ≡ most-rows) ×
     ((j : ℕ) → j < i → ResponseOf (tableIn rows n) (planOf plan) j (getD times j 0))
     × ((j : ℕ) → i ≤ j → getD times j 0 ≡ 0)
     × (length level ≡ ask-width * most-rows)
 
 abbrev μ-loop : tie.MeasureT-loop
-μ-loop rows n asks plan times₀ level₀ i₀ times level i = n - i
+μ-loop rows n asks plan blocks times₀ level₀ i₀ times level i = n - i
 
 -- the row in hand
 module _ (l : tie.In-loop Inv-loop μ-loop) where
+  abbrev made : tie.After-blocks-of Inv-loop μ-loop
+  made = l .before .before
+
   abbrev s : tie.Start Inv-loop μ-loop
-  s = l .before .before .before .before
+  s = made .before .before .before
 
   -- its table, of n rows or of as many as there are asks
   abbrev table : ℕ → Table
@@ -43,10 +47,10 @@ module _ (l : tie.In-loop Inv-loop μ-loop) where
 -- with the rows above it and its blocking
 module _ (c : tie.After-blocking-of Inv-loop μ-loop) where
   abbrev l : tie.In-loop Inv-loop μ-loop
-  l = c .before .before .before .before
+  l = c .before .before .before .before .before
 
   abbrev above : ℕ
-  above = c .before .above-of .result
+  above = c .before .before .above-of .result
 
   abbrev b : ℕ
   b = c .blocking-of .result
@@ -59,8 +63,8 @@ module _ (c : tie.After-blocking-of Inv-loop μ-loop) where
       record {
         planned = s l .pre .0;
         row = l .loop-test .taken;
-        over = c .before .above-of .ensures;
-        under = c .blocking-of .ensures;
+        over = c .before .before .above-of .ensures;
+        under = blocking-in _ _ _ _ b (made l .blocks-of .ensures) (c .blocking-of .ensures);
       }
 
 -- and its response
@@ -109,9 +113,11 @@ returns c =
     }
 
 pub responses-spec : {M : Type 1} → statement M
-responses-spec = tie.close (tie.spec Inv-loop μ-loop loop-holds (λ c. search needs) (λ c. search needs)
+responses-spec = tie.close (tie.spec Inv-loop μ-loop
+    (λ c κs. let p = c .before .before .pre .0 in (p .sound .few, p .whole)) loop-holds (λ c. search needs)
+    (λ c. search needs)
     (λ c. search needs) (λ c. search needs) (λ c. search needs) (λ c. search needs)
     (λ c κs. let p = s (c .before .before) .pre .0 in (p .sound .few, p .whole))
-    (λ c κs. let p = s (c .before .before .before) .pre .0 in (p .sound .few, p .whole))
+    (λ c κs. let p = s (c .before .before .before .before) .pre .0 in (p .sound .few, p .whole))
     (λ c. sym (l (c .before) .before .loop .inv .4)) response-requires (λ c. search needs)
     (λ c. search needs) (λ c. search needs) (λ c. search needs) loop-again returns)

@@ -17,9 +17,9 @@ use Rattle.counting.proofs.Up.{up-le, lt-up}
 use Rattle.marks.specs.inside.Marks.{marked}
 use Rattle.marks.proofs.Marks.{next-by-zeros}
 use Rattle.tables.specs.Table.{Table, Within, most, most-rows}
-use Rattle.tables.specs.Plan.{cap}
+use Rattle.tables.specs.Plan.{cap, longer}
 use Rattle.tables.specs.inside.Rows.{tableIn}
-use Rattle.tables.proofs.Plan.{cap-is, cap-run}
+use Rattle.tables.proofs.Plan.{cap-is, cap-run, longer-in}
 use Rattle.test.specs.Test.{horizon, upto, load, jobs, Active, active-side, start-side, Response}
 use Rattle.test.proofs.Starts.{released-within}
 use Rattle.sides.specs.inside.Asks.{ask-width, many, again}
@@ -30,53 +30,54 @@ use Rattle.sides.proofs.Asking.{Kept, asking-held, asking-packed}
 use Rattle.sides.proofs.Left.{place-within, left-whole, left-few, left-others, back-as-was}
 use Rattle.responses.proofs.Jobs.{Working, jobs-few, length-first, base-within}
 use Rattle.choice.specs.Choice.{Fits}
+use Rattle.search.specs.inside.Choose.{Worth}
 use Rattle.search.proofs.Period.{positive, period-within, period-first, period-exists}
 use Rattle.search.proofs.Period.{period-found, kept-without}
 use Rattle.search.proofs.Trial.{Trial, trial-first, trial-within, trial-again, trial-misses, trial-after}
 use Rattle.search.proofs.Trial.{trial-next, trial-passes}
 use Rattle.search.proofs.Lengths.{Narrowed, narrowed-first, narrowed-fits, narrowed-misses}
-use Rattle.search.proofs.Seen.{Seen, Worth, worth-le, seen-first, seen-same, seen-better, seen-one, seen-all}
-use Rattle.search.proofs.Seen.{seen-none}
+use Rattle.search.proofs.Seen.{Seen, worth-le, seen-first, seen-same, seen-better, seen-one, seen-all, seen-none}
 use Rattle.search.proofs.choose.Statement.{statement}
 use Rattle.search.proofs.choose.Tie as tie
 
 abbrev Inv-loop : tie.InvT-loop
-Inv-loop asks level unplaced repeats tried b runs rows packed all first period row best response rest i inside at
-    above own c t cap low high time len k largest s₀ released due base s =
+Inv-loop asks level unplaced repeats tried b runs rows packed all first period row best shortest response rest i
+    inside at above own c t cap low high time len k largest s₀ released due base s =
     Trial (tableIn rows (many asks)) (without (marked unplaced) i) b i len period k s largest
 
 abbrev μ-loop : tie.MeasureT-loop
-μ-loop asks level unplaced repeats tried b runs rows packed all first period row best response rest i inside at
-    above own c t cap low high time len k largest s₀ released due base s = horizon + 1 - s
+μ-loop asks level unplaced repeats tried b runs rows packed all first period row best shortest response rest i
+    inside at above own c t cap low high time len k largest s₀ released due base s = horizon + 1 - s
 
 abbrev Inv-jobs : tie.InvT-jobs
-Inv-jobs asks level unplaced repeats tried b runs rows packed all first period row best response rest i inside at
-    above own c t cap low high time len k₀ largest₀ s₀ k largest s =
+Inv-jobs asks level unplaced repeats tried b runs rows packed all first period row best shortest response rest i
+    inside at above own c t cap low high time len k₀ largest₀ s₀ k largest s =
     Trial (tableIn rows (many asks)) (without (marked unplaced) i) b i len period k s largest
 
 abbrev μ-jobs : tie.MeasureT-jobs
-μ-jobs asks level unplaced repeats tried b runs rows packed all first period row best response rest i inside at
-    above own c t cap low high time len k₀ largest₀ s₀ k largest s =
+μ-jobs asks level unplaced repeats tried b runs rows packed all first period row best shortest response rest i
+    inside at above own c t cap low high time len k₀ largest₀ s₀ k largest s =
     jobs (tableIn rows (many asks)) (without (marked unplaced) i) b i period + 1 - k
 
 abbrev Inv-lengths : tie.InvT-lengths
-Inv-lengths asks level unplaced repeats tried b runs rows packed all first period row best response rest i inside at
-    above own c t cap low₀ high₀ time₀ len₀ low high time len =
+Inv-lengths asks level unplaced repeats tried b runs rows packed all first period row best shortest response rest i
+    inside at above own c t cap low₀ high₀ time₀ len₀ low high time len =
     Narrowed (tableIn rows (many asks)) (without (marked unplaced) i) b i cap low high time
     × (low < high → (low ≤ len) × (len < high))
 
 abbrev μ-lengths : tie.MeasureT-lengths
-μ-lengths asks level unplaced repeats tried b runs rows packed all first period row best response rest i inside at
-    above own c t cap low₀ high₀ time₀ len₀ low high time len = high - low
+μ-lengths asks level unplaced repeats tried b runs rows packed all first period row best shortest response rest i
+    inside at above own c t cap low₀ high₀ time₀ len₀ low high time len = high - low
 
 abbrev Inv-rows : tie.InvT-rows
-Inv-rows asks level₀ unplaced repeats tried b runs rows packed all first period row₀ best₀ response₀ rest₀ level row
-    best response rest =
-    Seen (tableIn rows (many asks)) (marked unplaced) b (marked tried) row best response rest × (level ≡ level₀)
+Inv-rows asks level₀ unplaced repeats tried b runs rows packed all first period row₀ best₀ shortest₀ response₀
+    rest₀ level row best shortest response rest =
+    Seen (tableIn rows (many asks)) (marked unplaced) b (marked tried) row best shortest response rest
+    × (level ≡ level₀)
 
 abbrev μ-rows : tie.MeasureT-rows
-μ-rows asks level₀ unplaced repeats tried b runs rows packed all first period row₀ best₀ response₀ rest₀ level row
-    best response rest =
+μ-rows asks level₀ unplaced repeats tried b runs rows packed all first period row₀ best₀ shortest₀ response₀
+    rest₀ level row best shortest response rest =
     rest
 
 -- a place, or a need, under these invariants
@@ -248,11 +249,11 @@ module _ (c : Under tie.After-cap-of) where
   abbrev top : ℕ
   top = c .cap-of .result
 
-  worth : Worth (cap (tb (S H)) (i H)) (rows H .rows .best) top
+  worth : Worth (tb (S H) .M (i H)) (cap (tb (S H)) (i H)) (rows H .rows .best) top
   worth = rw (cap-is (tb (S H)) (i H)) (c .cap-of .ensures)
 
   top-le : top ≤ cap (tb (S H)) (i H)
-  top-le = worth-le (cap (tb (S H)) (i H)) (rows H .rows .best) top worth
+  top-le = worth-le worth
 
   top-run : top ≤ tb (S H) .C (i H)
   top-run = cap-run (tb (S H)) (i H) top-le
@@ -295,12 +296,12 @@ module _ (c : Under tie.In-lengths) where
       Narrowed (tb (S R)) (P R) (b (S R)) (i R) (top (c .before .before)) low high time
       × (high - low < c .before .lengths .high - c .before .lengths .low)
 
-  shorter : {time : ℕ} → Passes time → Narrower (c .before .lengths .low) q time
-  shorter f = let k = between in
+  lowered : {time : ℕ} → Passes time → Narrower (c .before .lengths .low) q time
+  lowered f = let k = between in
       (narrowed-fits (c .before .lengths .inv .0) (k .0) (k .1) short-enough working f, omega arith)
 
-  longer : Fails → Narrower (q + 1) (c .before .lengths .high) (c .before .lengths .time)
-  longer f = let k = between in
+  raised : Fails → Narrower (q + 1) (c .before .lengths .high) (c .before .lengths .time)
+  raised f = let k = between in
       (narrowed-misses (c .before .lengths .inv .0) (k .0) (k .1) short-enough working f, omega arith)
 
 -- ---- a job that is tried
@@ -403,9 +404,9 @@ outcome c =
     let x = I (c .before .before) in
     ⊎-elim
     (λ m. rw (m .1, m .2, m .3)
-    (⊎-elim (λ t. shorter x (t .1)) (λ t. not-both (c .before .if1 .passes) (t .0) (m .0 .taken)) (tested (c .before))))
+    (⊎-elim (λ t. lowered x (t .1)) (λ t. not-both (c .before .if1 .passes) (t .0) (m .0 .taken)) (tested (c .before))))
     (λ m. rw (m .1, m .2, m .3)
-    (⊎-elim (λ t. not-both (c .before .if1 .passes) (m .0 .left) (t .0)) (λ t. longer x (t .1)) (tested (c .before))))
+    (⊎-elim (λ t. not-both (c .before .if1 .passes) (m .0 .left) (t .0)) (λ t. raised x (t .1)) (tested (c .before))))
     (c .if4 .came)
 
 -- ---- where the lengths of a row are left
@@ -416,15 +417,17 @@ module _ (c : Under tie.After-lengths) where
   abbrev G : Under tie.After-leave-out
   G = H K
 
-  abbrev Leads : ℕ → ℕ → ℕ → Type 0
-  Leads row best time =
-      Seen (tb (S G)) (U (S G)) (b (S G)) (marked (S G .args .tried)) row best time (left G .less .result)
+  abbrev Leads : ℕ → ℕ → ℕ → ℕ → Type 0
+  Leads row best q time =
+      Seen (tb (S G)) (U (S G)) (b (S G)) (marked (S G .args .tried)) row best q time (left G .less .result)
 
-  better : c .before .lengths .high ≤ top K → Leads (i G) (c .before .lengths .high) (c .before .lengths .time)
+  better : c .before .lengths .high ≤ top K →
+      let high = c .before .lengths .high in Leads (i G) (longer (tb (S G)) (i G) high) high (c .before .lengths .time)
   better = seen-better (rows G .rows .inv .0) (N G .next .ensures) (left G .less .ensures) (inside G)
       (worth K) (c .before .lengths .inv .0) (c .lengths-test .left)
 
-  unchanged : top K < c .before .lengths .high → Leads (rows G .rows .row) (rows G .rows .best) (rows G .rows .response)
+  unchanged : top K < c .before .lengths .high →
+      let r = rows G .rows in Leads (r .row) (r .best) (r .shortest) (r .response)
   unchanged = seen-same (rows G .rows .inv .0) (N G .next .ensures) (left G .less .ensures) (inside G)
       (worth K) (c .before .lengths .inv .0) (c .lengths-test .left)
 
@@ -456,6 +459,9 @@ leave-out-requires c κs =
       place-within (set w) (w .level-of .ensures) (all-whole w) _ (s .inside _ u) (p .before .has .ensures)
           (p .place .ensures),
     )
+
+cap-of-requires : Under tie.Need-cap-of-requires
+cap-of-requires c κs = let h = c .before .before .before in S h .pre .0 .sound .row (i h) (inside h) .region
 
 lengths-holds : Under tie.Need-lengths-holds
 lengths-holds c = (narrowed-first _ _ _ _ _, search needs)
@@ -543,13 +549,23 @@ put-back-requires c κs =
       λ e. omega (arith, place-fits h e, W h .level-of .ensures .few),
     )
 
+-- ---- where the row in hand is better than those before it
+module _ (c : Under tie.After-longer) where
+  abbrev Q : Under tie.After-put-back
+  Q = c .before .before .before .before
+
+  leads : let l = D Q .before .lengths in Leads (D Q) (i (G (D Q))) (c .longer .result) (l .high) (l .time)
+  leads =
+      let h = G (D Q) in
+      let l = D Q .before .lengths in
+      let is = c .longer .ensures ∙ sym (longer-in (S h .args .t1) (many (S h .args .asks .now)) (i h) (l .high)) in
+      subst (λ v. Leads (D Q) (i h) v (l .high) (l .time)) (sym is) (better (D Q) (c .before .if5 .taken))
+
 rows-again : Under tie.Need-rows-again
-rows-again c =
-    let p = c .before .before .before .before in
-    (seen-one (c .if6 .taken) (better (D p) (c .before .if5 .taken)), back p)
+rows-again c = (seen-one (c .if6 .taken) (leads (c .before)), back (Q (c .before)))
 
 rows-again-2 : Under tie.Need-rows-again-2
-rows-again-2 c = let p = c .before .before .before .before in (better (D p) (c .before .if5 .taken), back p)
+rows-again-2 c = (leads (c .before), back (Q (c .before)))
 
 rows-again-3 : Under tie.Need-rows-again-3
 rows-again-3 c = let p = c .before .before .before in (unchanged (D p) (c .if5 .left), back p)
@@ -566,7 +582,7 @@ returns-2 : Under tie.Need-returns-2
 returns-2 c =
     let w = c .before .before .rows .inv .0 in
     let some = pos-of-ne-zero (c .if7 .left) in
-    (seen-all w (c .before .rows-test .left) some, w .timed some)
+    (seen-all w (c .before .rows-test .left) some, w .found some .3, w .timed some)
 
 pub choose-spec : {M : Type 1} → statement M
 choose-spec = tie.close (tie.spec Inv-loop μ-loop Inv-jobs μ-jobs Inv-lengths μ-lengths Inv-rows μ-rows
@@ -581,7 +597,7 @@ choose-spec = tie.close (tie.spec Inv-loop μ-loop Inv-jobs μ-jobs Inv-lengths 
     (λ c. search needs) leave-out-requires (λ c. search needs)
     (λ c. omega (arith, N (c .before .before) .next .ensures .inside))
     (λ c. N (c .before .before) .next .ensures .inside)
-    (λ c κs. search needs) (λ c. omega (arith, top-run c, runs (H c) .high)) lengths-holds
+    cap-of-requires (λ c. omega (arith, top-run c, runs (H c) .high)) lengths-holds
     (λ c. omega (arith, length-first (working c), first-is (R c))) jobs-holds (λ c. c .jobs .inv .low)
     (λ c. omega (arith, released c)) add-due (λ c. c .before .jobs .inv .low) base-of-requires loop-holds
     (λ c. omega (arith, within c)) (λ c. omega (arith, few-above (R (I (c .before)))))
@@ -593,7 +609,7 @@ choose-spec = tie.close (tie.spec Inv-loop μ-loop Inv-jobs μ-jobs Inv-lengths 
     (λ c. let a = E (c .before .before) in omega (arith, within a, runs (R (I a)) .high)) jobs-less jobs-again
     (λ c. let x = I (c .before .before) in omega (arith, working x .most, runs (R x) .high)) next-length-requires
     lengths-less lengths-again (λ c. search needs) put-back-requires
-    (λ c. pos-of-ne-zero (N (G (D (c .before .before .before .before))) .before .rows-test .taken)) rows-again
-    (λ c. left (G (D (c .before .before .before .before))) .less .ensures .smaller) rows-again-2
+    (λ c κs. search needs) (λ c. pos-of-ne-zero (N (G (D (Q (c .before)))) .before .rows-test .taken)) rows-again
+    (λ c. left (G (D (Q (c .before)))) .less .ensures .smaller) rows-again-2
     (λ c. left (G (D (c .before .before .before))) .less .ensures .smaller) rows-again-3
     (λ c. as-lent (c .before .before)) returns (λ c. as-lent (c .before .before)) returns-2)

@@ -1,9 +1,10 @@
--- `read_task` meets its contract: the word, and the three numbers behind it.
+-- `read_task` meets its contract: the word, and the numbers behind it.
 use Rattle.decimal.specs.Word.{word}
 use Rattle.reading.specs.inside.Piece.{wordPiece, Passed}
 use Rattle.reading.proofs.Pieces.{stuck-first, alike-stuck}
 use Rattle.sheet.specs.inside.Read.{timesPiece}
-use Rattle.sheet.proofs.Lines.{task-alike, one-time, reads-task}
+use Rattle.sheet.proofs.Lines.{task-alike}
+use Rattle.sheet.proofs.Reading.{some-times, reads-task}
 use borrow.Author.Needs.{needs}
 use Rattle.sheet.proofs.read_task.Statement.{statement}
 use Rattle.sheet.proofs.read_task.Tie as tie
@@ -17,7 +18,7 @@ returns : tie.Need-returns
 returns c =
     let unnamed = rw (c .before .named .given .1) at (c .before .before .before .read-word .ensures) in
     alike-stuck task-alike
-    (stuck-first (wordPiece (word "task ")) timesPiece unnamed (1, (1, 1)) (one-time, (one-time, one-time)))
+    (stuck-first (wordPiece (word "task ")) (λ _. timesPiece) unnamed (λ _ _. some-times))
 
 returns-2 : tie.Need-returns-2
 returns-2 c = reads-task _ _ _ (c .read-times .result) (named (c .before)) (c .read-times .ensures)

@@ -1,9 +1,9 @@
 -- `read_tick` meets its contract: the word, and the number behind it.
 use Rattle.decimal.specs.Word.{word}
-use Rattle.reading.specs.inside.Piece.{wordPiece, numberPiece, Passed}
+use Rattle.reading.specs.inside.Piece.{wordPiece, Passed}
 use Rattle.reading.proofs.Pieces.{stuck-first, alike-stuck}
-use Rattle.sheet.specs.Sheet.{longest-tick}
-use Rattle.sheet.proofs.Lines.{tick-alike, one-tick, reads-tick}
+use Rattle.sheet.proofs.Lines.{tickNumber, tick-alike}
+use Rattle.sheet.proofs.Reading.{some-tick, reads-tick}
 use borrow.Author.Needs.{needs}
 use Rattle.sheet.proofs.read_tick.Statement.{statement}
 use Rattle.sheet.proofs.read_tick.Tie as tie
@@ -16,7 +16,7 @@ named c = rw (c .before .named2 .given .1) at (c .before .before .before .read-w
 returns : tie.Need-returns
 returns c =
     let unnamed = rw (c .before .named .given .1) at (c .before .before .before .read-word .ensures) in
-    alike-stuck tick-alike (stuck-first (wordPiece (word "tick ")) (numberPiece longest-tick 10) unnamed 1 one-tick)
+    alike-stuck tick-alike (stuck-first (wordPiece (word "tick ")) (λ _. tickNumber) unnamed (λ _ _. some-tick))
 
 returns-2 : tie.Need-returns-2
 returns-2 c = reads-tick _ _ (c .read-number .result) (named (c .before)) (c .read-number .ensures)

@@ -12,7 +12,7 @@ use Rattle.tables.proofs.check_table.Statement.{statement}
 use Rattle.tables.proofs.check_table.Tie as tie
 
 -- three tests passed: the slice is rows
-module _ (c : tie.After-first-outside) where
+module _ (c : tie.After-first-fault) where
   abbrev xs : List ℕ
   xs = c .before .before .before .before .before .args .xs .now
 
@@ -21,13 +21,13 @@ module _ (c : tie.After-first-outside) where
 
 returns-4 : tie.Need-returns-4
 returns-4 c =
-    let f = c .before .first-outside in
-    (shape-of-rows (xs (c .before)) (rows (c .before)), range-hit _ (f .result) (f .ensures) (c .if4 .taken))
+    let f = c .before .first-fault in
+    (shape-of-rows row-width (xs (c .before)) (rows (c .before)), range-hit _ (f .result) (f .ensures) (c .if4 .taken))
 
 returns-5 : tie.Need-returns-5
 returns-5 c =
-    let f = c .before .first-outside in (
-      shape-of-rows (xs (c .before)) (rows (c .before)),
+    let f = c .before .first-fault in (
+      shape-of-rows row-width (xs (c .before)) (rows (c .before)),
       range-clear _ (f .result) (f .ensures) (c .if4 .left),
       omega arith,
     )

@@ -17,7 +17,8 @@ abbrev μ-loop : tie.MeasureT-loop
 
 loop-again : tie.Need-loop-again Inv-loop μ-loop
 loop-again c =
-    (search needs, search needs, holds-more no _ (c .before .before .before .before .loop .inv .2) (omega arith))
+    let here = c .before .before .before .before .before .before .loop in
+    (search needs, search needs, holds-more no _ (here .inv .2) (omega arith))
 
 returns : tie.Need-returns Inv-loop μ-loop
 returns c =
@@ -28,4 +29,5 @@ pub rows-of-spec : {M : Type 1} → statement M
 rows-of-spec = tie.close (tie.spec Inv-loop μ-loop (λ c. (search needs, refl, holds-none no _ 32))
     (λ c. search needs) (λ c. search needs) (λ c. search needs) (λ c. search needs) (λ c. search needs)
     (λ c. search needs) (λ c. search needs) (λ c. search needs) (λ c. search needs) (λ c. search needs)
-    (λ c. search needs) (λ c. search needs) (λ c. search needs) loop-again returns)
+    (λ c. search needs) (λ c. search needs) (λ c. search needs) (λ c. search needs) (λ c. search needs)
+    (λ c. search needs) (λ c. search needs) (λ c. search needs) (λ c. search needs) loop-again returns)

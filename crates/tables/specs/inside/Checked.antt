@@ -1,12 +1,12 @@
 -- What the check functions answer: each case of their enums, said by the checks of `Checks`.
-use Prim.Native.Nat.{ℕ, _*_, _≤_, _<_}
+use Prim.Native.Nat.{ℕ, _+_, _*_, _≤_, _<_}
 use mathlib.Core.Path.{_≡_}
 use mathlib.Core.Bool.{Bool, true, false}
 use mathlib.Core.List.{List}
-use lib.ListN.{length, getD}
-use Rattle.tables.specs.Table.{Table, Within, row-width}
+use lib.ListN.{length}
+use Rattle.tables.specs.Table.{Table, row-width, tableOf}
 use Rattle.tables.specs.Refusal.{Clear}
-use Rattle.tables.specs.Checks.{shape, range, plan-form}
+use Rattle.tables.specs.Checks.{NumberAtFault, shape, range, plan-form}
 use Rattle.tables.specs.declared.TableCheck.{TableCheck}
 use Rattle.tables.specs.declared.TableCheck.the-variants.{Sound, Shape, Range}
 use Rattle.tables.specs.declared.PlanCheck.{PlanCheck}
@@ -17,11 +17,17 @@ abbrev pub Says : Bool → Type 0 → Type 0
 Says true A = A
 Says false A = A → ⊥
 
--- i is the index of the first number outside 1 to 1,000,000, or the length where there is none
-pub record FirstOutside (xs : List ℕ) (i : ℕ) : Type 0 where
-  pub inside : i ≤ length xs
-  pub within : (j : ℕ) → j < i → Within (getD xs j 0)
-  pub outside : i < length xs → Within (getD xs i 0) → ⊥
+-- at is the index of the first number of row i that is at fault, or that of the next row where none is
+pub record FaultInRow (tb : Table) (i at : ℕ) : Type 0 where
+  pub high : at ≤ row-width * i + row-width
+  pub fault : at < row-width * i + row-width → NumberAtFault tb i at
+  pub least : (k : ℕ) → NumberAtFault tb i k → at ≤ k
+
+-- at is the index of the first number at fault, or the length where there is none
+pub record FirstFault (xs : List ℕ) (at : ℕ) : Type 0 where
+  pub high : at ≤ length xs
+  pub fault : at < length xs → (i : ℕ) × (i < tableOf xs .n) × NumberAtFault (tableOf xs) i at
+  pub least : (i k : ℕ) → i < tableOf xs .n → NumberAtFault (tableOf xs) i k → at ≤ k
 
 -- the checks 1 and 3, in this order; n rows where both are clear
 abbrev pub TableChecked : List ℕ → TableCheck → Type 0

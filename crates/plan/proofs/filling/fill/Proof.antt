@@ -17,6 +17,7 @@ use Rattle.sides.proofs.Busy.{busy-asks}
 use Rattle.search.specs.inside.Choose.{Searchable, Picked}
 use Rattle.search.specs.declared.Pick.{Pick}
 use Rattle.search.specs.declared.Pick.the-variants.{Taken}
+use Rattle.tables.proofs.Plan.{longer-ge}
 use Rattle.plan.proofs.Runs.{runs-first, runs-enough, runs-more}
 use Rattle.plan.proofs.Going.{Going, going-first, going-room, going-stops, going-ends, going-more}
 use Rattle.plan.proofs.filling.fill.Statement.{statement}
@@ -74,7 +75,7 @@ module _ (c : tie.After-known-told Inv-loop μ-loop) where
   abbrev y : ℕ
   y = c .before .pick .given .0 .0
 
-  picked : Picks A (Taken y (c .before .pick .given .0 .1 .0) (c .before .pick .given .0 .1 .1 .0))
+  picked : let g = c .before .pick .given .0 .1 in Picks A (Taken y (g .0) (g .1 .0) (g .1 .1 .0))
   picked = subst (Picks A) (c .before .pick .given .1) (chose S)
 
   inside : y < most-rows
@@ -85,6 +86,12 @@ module _ (c : tie.After-known-told Inv-loop μ-loop) where
 
   enough : run (B A .args .asks .now) y ≤ A .loop .runs
   enough = omega (arith, own-run, runs-enough (pos A) (U A) (A .loop .inv .2) (picked .0 .row) (picked .0 .try))
+
+  -- a row blocks with its length at least
+  blocks-some : 1 ≤ c .before .pick .given .0 .1 .1 .0
+  blocks-some =
+      let p = picked in
+      omega (arith, p .1, p .0 .shortest .low, longer-ge (tb A) y (c .before .pick .given .0 .1 .0))
 
 loop-holds : tie.Need-loop-holds Inv-loop μ-loop
 loop-holds c =
@@ -131,7 +138,8 @@ loop-again c =
     let d = c .before .before .before in
     let a = A d in (
       rw (S d .before .before .size .ensures, c .before .larger .ensures)
-          (going-more (tb a) (pos a) (a .loop .inv .0) (inside d) (picked d .0) (picked d .1) (c .less .ensures)),
+          (going-more (tb a) (pos a) (a .loop .inv .0) (inside d) (picked d .0) (picked d .2) (c .less .ensures)
+          (picked d .1)),
       S d .choose .kept .1 .1 .0 ∙ a .loop .inv .1,
       ap (λ x. a .loop .runs - x) (own-run d)
           ∙ runs-more (pos a) (U a) (a .loop .inv .2) (picked d .0 .row) (picked d .0 .try) (c .less .ensures),
@@ -150,7 +158,7 @@ fill-spec = tie.close (tie.spec Inv-loop μ-loop
     (λ c. let d = c .before in omega (arith, picked d .0 .row, B (A d) .pre .3 .long))
     (λ c. let d = c .before in
     omega (arith, own-run d, B (A d) .pre .0 .row (y d) (picked d .0 .row) .C .high)) (λ c. enough (c .before))
-    (λ c. omega (arith, picked (c .before) .0 .shortest .low)) (λ c κs. search needs)
-    (λ c κs. let d = c .before .before in (inside d, picked d .0 .try)) (λ c. c .less .ensures .smaller)
-    loop-again
+    (λ c. blocks-some (c .before))
+    (λ c κs. search needs) (λ c κs. let d = c .before .before in (inside d, picked d .0 .try))
+    (λ c. c .less .ensures .smaller) loop-again
     (λ c. let a = c .before in going-ends (tb a) (pos a) (a .loop .inv .0) (c .loop-test .left)))
