@@ -158,7 +158,7 @@ fill-spec = tie.close (tie.spec Inv-loop μ-loop
     (λ c. let d = c .before in omega (arith, picked d .0 .row, B (A d) .pre .3 .long))
     (λ c. let d = c .before in
     omega (arith, own-run d, B (A d) .pre .0 .row (y d) (picked d .0 .row) .C .high)) (λ c. enough (c .before))
-    (λ c. blocks-some (c .before))
+    (λ c. omega (arith, blocks-some (c .before)))
     (λ c κs. search needs) (λ c κs. let d = c .before .before in (inside d, picked d .0 .try))
     (λ c. c .less .ensures .smaller) loop-again
     (λ c. let a = c .before in going-ends (tb a) (pos a) (a .loop .inv .0) (c .loop-test .left)))
