@@ -4,5 +4,6 @@ pub mod Columns
 pub mod Demand2
 pub mod Demand3
 pub mod Callers
+pub mod Settled
 pub mod Versions
 pub mod Board

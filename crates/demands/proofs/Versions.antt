@@ -1,10 +1,13 @@
 -- The wrong versions are refuted, each on its named table: the answer that the promise allows there is known, and is
 -- the only one.
 use Prim.Native.Nat.{ℕ, _/_, _%_, _≤_, _<_}
-use mathlib.Core.Path.{_≡_, refl, ap}
-use mathlib.Core.Bool.{true}
+use mathlib.Core.Path.{_≡_, refl, ap, _∙_}
+use mathlib.Core.Bool.{true, false}
+use mathlib.Core.Logic.{inl, inr}
 use mathlib.Core.List.{List, [], _∷_}
 use native.Mathlib.Omega.{arith}
+use borrow.Author.Tests.{eqb-false}
+use lib.Dec.{eqb}
 use lib.ListN.{length, getD}
 use Rattle.counting.specs.Up.{up}
 use Rattle.counting.specs.Sum.{sum}
@@ -14,16 +17,19 @@ use Rattle.tables.specs.Refusal.{Result}
 use Rattle.tables.proofs.Clear.{sound-of-clear}
 use Rattle.choice.specs.Answers.{PlanAnswer}
 use Rattle.starred.specs.Figures.{wholly, second-table, third-table, three-rows, overloaded-table}
-use Rattle.starred.specs.Figures.{urgent-first, three-thirds, one-tick-over}
+use Rattle.starred.specs.Figures.{urgent-first, three-thirds, one-tick-over, plans, plays, region-figures}
 use Rattle.starred.proofs.Tests.{Test, less, both, each}
 use Rattle.starred.proofs.Clears.{table-test}
 use Rattle.starred.proofs.Figures.{second-right, third-right, three-right, overloaded-right, urgent-right}
 use Rattle.starred.proofs.Figures.{thirds-right, over-right}
 use Rattle.plan.proofs.Unique.{plan-unique}
+use Rattle.demands.specs.Settled.{OnlyWrites}
 use Rattle.demands.specs.Versions.{Version, Words, Always, six, six-marked, nine, BreaksOn, BreaksOnOneOf}
 use Rattle.demands.specs.Versions.{RefusesEverything}
 use Rattle.demands.specs.Versions.{GivesAFixedPlan, LeavesTheOutput, WritesOnARefusal, SearchesTheLowestOnly}
-use Rattle.demands.specs.Versions.{RanksByDeadline, RefusesByUtilisation, AllRefuted}
+use Rattle.demands.specs.Versions.{RanksByDeadline, RefusesByUtilisation, AllRefuted, NotWritten, NotPlanned}
+use Rattle.demands.specs.Versions.{NotPlayed, locked-table, locked-plan, RegionVersionsRefuted}
+use Rattle.demands.proofs.Settled.{Among, region-settled}
 
 words : (xs : List ℕ) → Test (Words xs)
 words xs = each (length xs) (λ i. less (getD xs i 0) 4294967296)
@@ -146,4 +152,37 @@ all-refuted =
       by-deadline = by-deadline;
       rounded-up = rounded-up;
       rounded-down = rounded-down;
+    }
+
+-- beside a figure of request (ii) numbers that differ from its own at place k are not written
+module _ {zs : List ℕ} (ys : List ℕ) (k : ℕ) (same : length zs ≡ length ys)
+    (differ : eqb (getD zs k 0) (getD ys k 0) ≡ false) where
+  not-written : {Answer : List ℕ → Result → Type 0} → OnlyWrites Answer ys → NotWritten Answer zs
+  not-written only out whole a = eqb-false _ _ differ (number-at (only out (whole ∙ same) _ .0 a) k)
+
+  not-planned : {xs : List ℕ} → Among (plans xs ys) region-figures → NotPlanned xs zs
+  not-planned {xs} is = not-written (region-settled (plans xs ys) is)
+
+  not-played : (js : List ℕ) → Among (plays locked-table locked-plan js ys) region-figures →
+      NotPlayed locked-table locked-plan js zs
+  not-played js is = not-written (region-settled (plays locked-table locked-plan js ys) is)
+
+pub region-versions-refuted : RegionVersionsRefuted
+unfolding region-figures
+region-versions-refuted =
+    record {
+      by-final-length = not-planned (1 ∷ 1 ∷ 3 ∷ 2 ∷ 1 ∷ 4 ∷ []) 0 refl refl (inl refl);
+      equals-by-length = not-planned (2 ∷ 2 ∷ 5 ∷ 1 ∷ 1 ∷ 4 ∷ []) 0 refl refl (search (inl, inr) depth 20);
+      longer-length = not-planned (1 ∷ 1 ∷ 2 ∷ 2 ∷ 1 ∷ 5 ∷ []) 4 refl refl (search (inl, inr) depth 20);
+      final-alone = not-planned (2 ∷ 1 ∷ 4 ∷ 1 ∷ 1 ∷ 2 ∷ []) 5 refl refl (search (inl, inr) depth 20);
+      middle-alone = not-planned (2 ∷ 2 ∷ 4 ∷ 1 ∷ 1 ∷ 2 ∷ []) 5 refl refl (search (inl, inr) depth 20);
+      added-up = not-planned (2 ∷ 1 ∷ 3 ∷ 1 ∷ 1 ∷ 1 ∷ []) 5 refl refl (search (inl, inr) depth 20);
+      own-region = not-planned (1 ∷ 1 ∷ 2 ∷ 2 ∷ 1 ∷ 5 ∷ []) 5 refl refl (search (inl, inr) depth 20);
+      lengths-up-to-c = not-planned (1 ∷ 1 ∷ 4 ∷ 2 ∷ 3 ∷ 5 ∷ []) 0 refl refl (search (inl, inr) depth 20);
+      locked-from-the-start =
+          not-played (6 ∷ 2 ∷ []) 1 refl refl (0 ∷ 0 ∷ 5 ∷ 1 ∷ 1 ∷ 1 ∷ []) (search (inl, inr) depth 20);
+      locked-with-the-end =
+          not-played (6 ∷ 5 ∷ []) 0 refl refl (0 ∷ 0 ∷ 5 ∷ 1 ∷ 4 ∷ 1 ∷ []) (search (inl, inr) depth 20);
+      held-to-its-own-end =
+          not-played (6 ∷ 5 ∷ []) 0 refl refl (0 ∷ 0 ∷ 5 ∷ 1 ∷ 2 ∷ 1 ∷ []) (search (inl, inr) depth 20);
     }

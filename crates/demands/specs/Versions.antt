@@ -1,5 +1,5 @@
--- Wrong versions of plan, each of which breaks the promise on a table that is named here: document 01, "What the
--- manual may rely on" and "Shortcuts that give a wrong manual".
+-- Wrong versions of plan and of play, each of which breaks the promise on a table that is named here: document 01,
+-- "What the manual may rely on" and "Shortcuts that give a wrong manual", and request (ii) of document 02.
 use Prim.Native.Nat.{ℕ, _*_, _/_, _%_, _≤_, _<_}
 use mathlib.Core.Path.{_≡_}
 use mathlib.Core.Logic.{_↔_}
@@ -10,8 +10,9 @@ use Rattle.counting.specs.Sum.{sum}
 use Rattle.tables.specs.Table.{Sound, tableOf, row-width}
 use Rattle.tables.specs.Refusal.{Result}
 use Rattle.choice.specs.Answers.{PlanAnswer, planned-width, plannedOf}
+use Rattle.kernel.specs.Answers.{PlayAnswer}
 use Rattle.starred.specs.Figures.{second-table, third-table, three-rows, overloaded-table, urgent-first, three-thirds}
-use Rattle.starred.specs.Figures.{one-tick-over}
+use Rattle.starred.specs.Figures.{one-tick-over, wholly, row, plain}
 
 -- a version of plan: a task table and a lent output to what it answers and leaves
 abbrev pub Version : Type 0
@@ -111,3 +112,46 @@ pub record AllRefuted : Type 0 where
       BreaksOn three-thirds nine f
   pub rounded-down : (f : Version) (whole : ℕ) → whole < 1000000 → RefusesByUtilisation _/_ whole f →
       BreaksOn one-tick-over six f
+
+-- a version is known by what it writes: whatever an output of as many numbers holds, the promise does not allow that
+-- it is left with these
+abbrev pub NotWritten : (List ℕ → Result → Type 0) → List ℕ → Type 0
+NotWritten Answer ys = (out : List ℕ) → length out ≡ length ys → Answer out (wholly ys) → ⊥
+
+abbrev pub NotPlanned : List ℕ → List ℕ → Type 0
+NotPlanned xs ys = NotWritten (PlanAnswer xs) ys
+
+abbrev pub NotPlayed : List ℕ → List ℕ → List ℕ → List ℕ → Type 0
+NotPlayed xs ps js ys = NotWritten (PlayAnswer xs ps js) ys
+
+-- row 0, the lower one, has a middle region of 3 after 1 tick of its run, and both final lengths are 1
+abbrev pub locked-table : List ℕ
+locked-table = row 5 20 20 1 3 (plain 1 9 9 [])
+
+abbrev pub locked-plan : List ℕ
+locked-plan = 2 ∷ 1 ∷ 1 ∷ 1 ∷ []
+
+-- request (ii) of document 02: what each of these versions writes for its table is not allowed
+pub record RegionVersionsRefuted : Type 0 where
+  -- "the least such longer region": not the least final length, nor the first row that passes with a length of 1
+  pub by-final-length : NotPlanned (row 3 4 4 0 2 (plain 1 4 4 [])) (2 ∷ 1 ∷ 4 ∷ 1 ∷ 1 ∷ 2 ∷ [])
+  -- "equals go to the earliest row": not to the one with the shorter final length
+  pub equals-by-length : NotPlanned (plain 2 5 8 (row 3 5 4 0 2 [])) (1 ∷ 1 ∷ 3 ∷ 2 ∷ 1 ∷ 5 ∷ [])
+  -- "its shortest passing final length": not a longer one that blocks with no more than the middle region does
+  pub longer-length : NotPlanned (plain 1 2 5 (row 4 5 5 0 2 [])) (1 ∷ 1 ∷ 2 ∷ 2 ∷ 2 ∷ 5 ∷ [])
+  -- "Blocking counts the longer": not the final region alone
+  pub final-alone : NotPlanned (row 3 4 4 0 2 (plain 1 2 4 [])) (2 ∷ 1 ∷ 4 ∷ 1 ∷ 1 ∷ 1 ∷ [])
+  -- "Blocking counts the longer": nor the middle region alone
+  pub middle-alone : NotPlanned (row 3 4 5 0 1 (plain 1 2 3 [])) (2 ∷ 2 ∷ 4 ∷ 1 ∷ 1 ∷ 1 ∷ [])
+  -- "Blocking counts the longer": nor both added up
+  pub added-up : NotPlanned (row 2 3 3 0 1 (plain 1 2 3 [])) (2 ∷ 1 ∷ 3 ∷ 1 ∷ 1 ∷ 2 ∷ [])
+  -- "Blocking counts" by document 01 what is below: not the row's own middle region
+  pub own-region : NotPlanned (plain 1 2 3 (row 3 6 5 0 2 [])) (1 ∷ 1 ∷ 2 ∷ 2 ∷ 1 ∷ 6 ∷ [])
+  -- "at most C less the region's end": not up to C
+  pub lengths-up-to-c : NotPlanned (row 2 5 4 0 1 (plain 3 5 6 [])) (2 ∷ 2 ∷ 5 ∷ 1 ∷ 1 ∷ 4 ∷ [])
+  -- "executed more than the start": a job is not held with the start
+  pub locked-from-the-start : NotPlayed locked-table locked-plan (0 ∷ 0 ∷ 5 ∷ 1 ∷ 1 ∷ 1 ∷ []) (6 ∷ 5 ∷ [])
+  -- "and less than the end": nor with the end
+  pub locked-with-the-end : NotPlayed locked-table locked-plan (0 ∷ 0 ∷ 5 ∷ 1 ∷ 4 ∷ 1 ∷ []) (5 ∷ 6 ∷ [])
+  -- "and less than the end": nor past it to the end of its run
+  pub held-to-its-own-end : NotPlayed locked-table locked-plan (0 ∷ 0 ∷ 5 ∷ 1 ∷ 2 ∷ 1 ∷ []) (5 ∷ 6 ∷ [])
