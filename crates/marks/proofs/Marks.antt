@@ -263,8 +263,12 @@ below-power : (s : ℕ) → s < 2 ^ s
 below-power zero = omega arith
 below-power (suc s) = omega (arith, below-power s, pow-suc 2 s)
 
+-- a set that is not empty has a row
+pub something : (s : ℕ) → 0 < s → marked s (trailingZeros s s) ≡ true
+something s p = lowest-marked s s p (below-power s)
+
 pub count-something : (s n : ℕ) → 0 < s → ((j : ℕ) → marked s j ≡ true → j < n) → 1 ≤ count (marked s) n
 count-something s n p within =
     let i = trailingZeros s s in
-    let m = lowest-marked s s p (below-power s) in
+    let m = something s p in
     omega (arith, count-without (marked s) i n (within i m) m)

@@ -1,7 +1,3 @@
 -- The laws of the crate `plan`.
 pub mod Answers
 pub mod Unique
-pub mod Timed
-pub mod Runs
-pub mod Going
-pub mod FillUnique

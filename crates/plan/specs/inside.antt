@@ -1,3 +1,2 @@
 -- What the functions of `plan` promise each other: no public promise rests on it.
 pub mod Given
-pub mod Ended

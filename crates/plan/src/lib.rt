@@ -1,6 +1,4 @@
 // The operation plan: the checks in their order, the ranks filled, and the planned table written.
-mod filling;
-
 ghost use Rattle.tables.specs.Table.{tableOf};
 ghost use Rattle.tables.specs.inside.Rows.{SoundSlice};
 ghost use Rattle.tables.specs.Answer.{resultOf};
@@ -29,7 +27,7 @@ fn plan_of(table: &[u32], out: &mut [u32]) -> Answer
     let Busy::At(period) = busy else {
         return Answer::NoBusy;
     };
-    let filled = filling::fill(tables::rows_of(table, n), n, asks, period as u32);
+    let filled = search::fill(tables::rows_of(table, n), n, asks, period as u32);
     if filled.stopped != 0 {
         return Answer::NoPlan;
     }

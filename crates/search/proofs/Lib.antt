@@ -3,4 +3,7 @@ pub mod Period
 pub mod Trial
 pub mod Lengths
 pub mod Seen
+pub mod Timed
+pub mod Runs
+pub mod Going
 pub mod Unique

@@ -1,6 +1,6 @@
 -- Laws of a level that is searched: its rows ask for the same and have the same active period, whichever of them is
 -- tried, and with the blocking it lies within the horizon.
-use Prim.Native.Nat.{ℕ, _+_, _≤_}
+use Prim.Native.Nat.{ℕ, _+_, _≤_, _<_}
 use mathlib.Core.Path.{_≡_, sym, ap, _∙_, subst}
 use mathlib.Core.Bool.{Bool, true, _&&_}
 use mathlib.Core.List.{List}
@@ -10,19 +10,31 @@ use Rattle.counting.proofs.Cases.{by-eq}
 use Rattle.counting.proofs.Least.{least-unique}
 use Rattle.counting.proofs.Sum.{without-same, without-other}
 use Rattle.marks.specs.inside.Marks.{marked}
-use Rattle.tables.specs.Table.{Table}
-use Rattle.test.specs.Test.{upto, load, Active, active-side}
+use Rattle.tables.specs.Table.{Table, Sound}
+use Rattle.test.specs.Test.{before, upto, load, busy-side, BusyWithin, Active, active-side}
 use Rattle.test.proofs.Load.{Positive, sound-positive}
 use Rattle.test.proofs.Sides.{active-side-level}
 use Rattle.test.proofs.Plans.{level-active}
+use Rattle.sides.specs.inside.Asks.{again, Asks}
 use Rattle.sides.specs.inside.Level.{active-of}
 use Rattle.sides.specs.inside.Found.{Fixed, FixedWithin}
 use Rattle.sides.proofs.Level.{Asking}
 use Rattle.sides.proofs.Lower.{active-first, active-within, active-found}
-use Rattle.search.specs.inside.Choose.{Searchable}
 
-module _ {tb : Table} {asks : List ℕ} {unplaced repeats tried b runs : ℕ}
-    (s : Searchable tb asks unplaced repeats tried b runs) where
+-- a level of a table that has its busy period: some rows are unplaced, and the blocking and what they ask for is never
+-- more than what all rows ask for; the runs of the unplaced rows, the rows that are released again in the busy period,
+-- and what the table's rows ask with
+pub record Searchable (tb : Table) (asks : List ℕ) (unplaced repeats b runs : ℕ) : Type 0 where
+  pub sound : Sound tb
+  pub asked : Asks tb asks
+  pub inside : (j : ℕ) → marked unplaced j ≡ true → j < tb .n
+  pub some : 0 < unplaced
+  pub busy : BusyWithin tb
+  pub room : (t : ℕ) → 1 ≤ t → b + load before tb (marked unplaced) t ≤ busy-side tb t
+  pub repeat : (j : ℕ) → j < tb .n → marked repeats j ≡ again tb (busy .period) j
+  pub first : runs ≡ load upto tb (marked unplaced) 0
+
+module _ {tb : Table} {asks : List ℕ} {unplaced repeats b runs : ℕ} (s : Searchable tb asks unplaced repeats b runs) where
   abbrev U : ℕ → Bool
   U = marked unplaced
 

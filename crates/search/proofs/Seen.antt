@@ -13,7 +13,7 @@ use Rattle.tables.specs.Plan.{cap, longer}
 use Rattle.tables.proofs.Plan.{longer-is, longer-ge, longer-mono}
 use Rattle.test.specs.Test.{Response}
 use Rattle.choice.specs.Choice.{Fits, Shortest, Takes, NoneFits}
-use Rattle.search.specs.inside.Choose.{Worth}
+use Rattle.search.specs.inside.Worth.{Worth}
 use Rattle.search.proofs.Lengths.{Narrowed}
 
 pub worth-le : {M most best top : ℕ} → Worth M most best top → top ≤ most

@@ -107,15 +107,19 @@ module _ {tb : Table} {P : ℕ → Bool} {b i q L : ℕ} (w : Working tb P b i q
             (λ z. t .met j u x (omega arith) st)
 
         -- the next job starts no sooner than C later
-        pub trial-next : k < jobs tb P b i L →
-            Trial tb P b i q L (k + 1) (s + tb .C i) (max R (s + q - (k - 1) * tb .T i))
-        trial-next g =
+        pub trial-next : k < jobs tb P b i L → {next : ℕ} → next ≡ s + tb .C i →
+            Trial tb P b i q L (k + 1) next (max R (s + q - (k - 1) * tb .T i))
+        trial-next g later =
             record {
               low = omega arith;
               high = omega arith;
               climbing =
-                  from-below (k + 1) (s + tb .C i) (omega arith) (omega arith)
-                  (λ u st. next-low w k (t .low) (climbing-stops (t .climbing) e) (rw add-one at st));
+                  from-below (k + 1) _ (omega arith) (omega arith)
+                  (λ u st. omega (
+                    arith,
+                    later,
+                    next-low w k (t .low) (climbing-stops (t .climbing) e) (rw add-one at st),
+                  ));
               met = met-more;
               passed = let z : k + 1 - 1 ≡ k = omega arith in rw z kept;
             }

@@ -1,31 +1,41 @@
--- Any two picks that the promise of `choose` allows are equal.
-use Prim.Native.Nat.{ℕ}
-use mathlib.Core.Path.{_≡_, refl, sym, _∙_}
-use mathlib.Core.Bool.{Bool}
-use Rattle.counting.specs.Sum.{without}
+-- Any two fillings that the promise of `fill` allows are equal.
+use Prim.Native.Nat.{ℕ, _+_, _*_, _≤_}
+use mathlib.Core.Path.{_≡_, sym, _∙_}
+use mathlib.Core.Logic.{inl, inr}
+use mathlib.Core.List.{List}
+use native.Mathlib.Omega.{arith}
+use lib.ListN.{getD}
+use Rattle.counting.proofs.Cases.{by-le}
 use Rattle.tables.specs.Table.{Table}
-use Rattle.test.proofs.Response.{response-unique}
-use Rattle.choice.specs.Choice.{Takes, NoneFits}
-use Rattle.choice.proofs.Level.{takes-unique}
-use Rattle.search.specs.inside.Choose.{Picked}
-use Rattle.search.specs.declared.Pick.{Pick}
-use Rattle.search.specs.declared.Pick.the-variants.{Taken, Nothing}
+use Rattle.tables.specs.Plan.{planOf, plan-width}
+use Rattle.test.proofs.Load.{Positive}
+use Rattle.sides.proofs.Pairs.{pairs-same}
+use Rattle.responses.proofs.Unique.{responses-unique}
+use Rattle.choice.proofs.Filled.{chosen-unique, chosen-not-stopped, stopped-unique}
+use Rattle.search.specs.inside.Ended.{FilledAll, Ended}
+use Rattle.search.specs.declared.Filling.{Filling}
 
-module _ (tb : Table) (U : ℕ → Bool) (b : ℕ) (tried : ℕ → Bool) where
-  -- the row that takes the rank has a passing length
-  takes-not-none : {y q : ℕ} → Takes tb U b tried y q → NoneFits tb U b tried → ⊥
-  takes-not-none {y} {q} t none = none y q (t .row) (t .try) (t .shortest .low) (t .shortest .holds .0)
-      (t .shortest .holds .1)
+filling-same : {s r : ℕ} {p o t u : List ℕ} → s ≡ r → p ≡ o → t ≡ u →
+    _≡_ {A = Filling} (record { stopped = s; plan = p; times = t }) (record { stopped = r; plan = o; times = u })
+filling-same s p t = rw (s, p, t)
 
-  taken-same : {y z q r m k R S : ℕ} → y ≡ z → q ≡ r → m ≡ k → R ≡ S →
-      _≡_ {A = Pick} (Taken y q m R) (Taken z r k S)
-  taken-same e f g h = rw (e, f, g, h)
+module _ (tb : Table) (pos : Positive tb) (f g : Filling) where
+  same-plan : FilledAll tb f → FilledAll tb g → f .plan ≡ g .plan
+  same-plan x y =
+      let one = chosen-unique tb (planOf (f .plan)) (planOf (g .plan)) pos (x .chosen) (y .chosen) in
+      let none : (k : ℕ) → plan-width * tb .n ≤ k → getD (f .plan) k 0 ≡ getD (g .plan) k 0 =
+      λ k h. x .past k h ∙ sym (y .past k h) in
+      pairs-same (f .plan) (g .plan) (x .whole ∙ sym (y .whole))
+      (λ i. by-le (tb .n) i (λ h. none (plan-width * i) (omega arith)) (λ h. one i h .0))
+      (λ i. by-le (tb .n) i (λ h. none (plan-width * i + 1) (omega arith)) (λ h. one i h .1))
 
-  pub picked-unique : (a c : Pick) → Picked tb U b tried a → Picked tb U b tried c → a ≡ c
-  picked-unique (Taken y q m R) (Taken z r k S) x w =
-      let t = takes-unique tb U b tried y q z r (x .0) (w .0) in
-      taken-same (t .0) (t .1) (rw (t .0, t .1) at (x .1) ∙ sym (w .1))
-      (response-unique tb (without U z) b z r R S (rw (t .0, t .1) at (x .2)) (w .2))
-  picked-unique (Taken y q m R) Nothing x w = absurd (takes-not-none (x .0) w)
-  picked-unique Nothing (Taken z r k S) x w = absurd (takes-not-none (w .0) x)
-  picked-unique Nothing Nothing x w = refl
+  pub ended-unique : Ended tb f → Ended tb g → f ≡ g
+  ended-unique (inl x) (inl y) =
+      let e = same-plan x y in
+      filling-same (x .said ∙ sym (y .said)) e
+      (responses-unique tb (planOf (g .plan)) (f .times) (g .times) (rw e at (x .responses)) (y .responses))
+  ended-unique (inl x) (inr y) = absurd (chosen-not-stopped tb (planOf (f .plan)) pos (x .chosen) (y .stop))
+  ended-unique (inr x) (inl y) = absurd (chosen-not-stopped tb (planOf (g .plan)) pos (y .chosen) (x .stop))
+  ended-unique (inr x) (inr y) =
+      filling-same (x .said ∙ stopped-unique tb pos (x .stop) (y .stop) ∙ sym (y .said)) (x .plan ∙ sym (y .plan))
+      (x .times ∙ sym (y .times))

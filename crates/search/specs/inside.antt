@@ -1,2 +1,3 @@
 -- What the functions of `search` promise each other: no public promise rests on it.
-pub mod Choose
+pub mod Worth
+pub mod Ended

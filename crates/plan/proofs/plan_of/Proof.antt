@@ -18,7 +18,7 @@ use Rattle.tables.specs.Planned.{planned-width}
 use Rattle.tables.proofs.Answered.{_past_}
 use Rattle.tables.proofs.Front.{rows-ask, rows-sound, room-refuses, room-clear}
 use Rattle.times.proofs.Busy.{busy-refuses, busy-clear}
-use Rattle.plan.specs.inside.Ended.{Ended}
+use Rattle.search.specs.inside.Ended.{Ended}
 use Rattle.plan.proofs.Answers.{stopped-refuses, chosen-clear, plan-given}
 use Rattle.plan.proofs.plan_of.Statement.{statement}
 use Rattle.plan.proofs.plan_of.Tie as tie

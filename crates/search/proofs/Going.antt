@@ -25,8 +25,8 @@ use Rattle.choice.specs.Choice.{unplaced, Takes, TakesRank, NoneFits, Filled}
 use Rattle.choice.proofs.Level.{Alike, takes-alike, none-alike}
 use Rattle.choice.proofs.Filled.{agree-alike}
 use Rattle.choice.proofs.Placed.{Placed, filled-none, placed-agree, filled-placed, blocking-placed}
-use Rattle.plan.specs.inside.Ended.{Ended}
-use Rattle.plan.proofs.Timed.{Timed, response-alike, timed-at, timed-response}
+use Rattle.search.specs.inside.Ended.{Ended}
+use Rattle.search.proofs.Timed.{Timed, response-alike, timed-at, timed-response}
 
 -- the rank being filled
 abbrev pub rank : ℕ → ℕ
@@ -187,9 +187,9 @@ module _ (tb : Table) where
           let o = placed-y .others j l ne in
           timed-at p′ (alike (p .rank j) (omega (arith, g .placed j l m, one-less))) (o .0) (o .1) r
 
-      pub going-more : {m : ℕ} → m ≡ longer tb y q →
-          Going (put plan y (rank rest) q) (set times y R) left (max b (m - 1))
-      going-more longest =
+      pub going-more : {m next : ℕ} → m ≡ longer tb y q → next ≡ max b (m - 1) →
+          Going (put plan y (rank rest) q) (set times y R) left next
+      going-more longest less =
           record {
             long = put-length plan y (rank rest) q ∙ g .long;
             whole = simp length-set (g .whole);

@@ -7,7 +7,7 @@ use Rattle.tables.specs.Table.{Table, most-rows}
 use Rattle.tables.specs.Plan.{plan-width, planOf}
 use Rattle.responses.specs.inside.Asked.{Responses}
 use Rattle.choice.specs.Choice.{Chosen, Stopped}
-use Rattle.plan.specs.declared.filling.Filling.{Filling}
+use Rattle.search.specs.declared.Filling.{Filling}
 
 -- every rank is filled: 0 is said, each row's rank, length and response stand in its places, and the
 -- places past the rows hold 0
