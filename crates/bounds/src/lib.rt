@@ -1,1 +1,2 @@
 // How long the kernel's jobs take, against the response of their row: theorems only.
+#![tactic(auto)]

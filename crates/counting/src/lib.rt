@@ -1,4 +1,6 @@
 // Rounding up, the one place where the planner does it; and the larger of two numbers.
+#![tactic(auto)]
+
 ghost use Rattle.std.specs.Prelude.{◌≡◌, ◌+◌, max, ◌<◌, ◌≤◌};
 ghost use Rattle.counting.specs.Up.{up};
 

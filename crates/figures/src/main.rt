@@ -1,5 +1,6 @@
 // The figures of document 01 and of the requests of document 02, run: each as it stands there, with the answer that the
 // library gives. A row of document 01 has no middle region.
+#![tactic(auto)]
 ghost use Rattle.std.specs.Prelude.{◌≤◌};
 
 use tables::{JOB_WIDTH, MOST_ROWS, PLANNED_WIDTH, ROW_WIDTH, Said, TIMES_WIDTH};

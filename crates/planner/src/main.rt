@@ -1,4 +1,5 @@
 // The program `planner`: a sheet from standard input, its plan or its refusal to standard output.
+#![tactic(auto)]
 fn main() {
     program::run();
 }

@@ -1,4 +1,5 @@
 // The operation play: the kernel's rule, answered from decision to decision.
+#![tactic(auto)]
 ghost use Rattle.std.specs.Prelude.{◌≤◌, length};
 ghost use Rattle.tables.specs.Table.{table_of};
 ghost use Rattle.tables.specs.Plan.{plan_of};

@@ -1,4 +1,5 @@
 // The program over the library: a sheet from standard input, its plan or its refusal to standard output.
+#![tactic(auto)]
 ghost use Rattle.std.specs.Prelude.{◌≤◌, length, ◌≡◌};
 ghost use Rattle.tables.specs.Checks.{Rows};
 ghost use Rattle.tables.specs.Planned.{planned_width};

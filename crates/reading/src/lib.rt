@@ -1,4 +1,5 @@
 // Readers of a text from a cursor on: one word, and one number with the byte that ends it.
+#![tactic(auto)]
 ghost use Rattle.std.specs.Prelude.{◌≡◌, ◌≤◌, ◌<◌, length};
 ghost use Rattle.decimal.specs.Decimal.{nought};
 ghost use Rattle.reading.specs.inside.Read.{ReadsWord, ReadsNumber, EndsNumber, Grows};

@@ -1,4 +1,5 @@
 // The operation sheet: one pass over the text, then the limits of the table in ticks, then the room for it.
+#![tactic(auto)]
 ghost use Rattle.std.specs.Prelude.{◌≡◌, [], ◌++◌, ◌≤◌, ◌*◌, length, drop};
 ghost use Rattle.tables.specs.Table.{row_width, most_rows};
 ghost use Rattle.tables.specs.Checks.{Rows};

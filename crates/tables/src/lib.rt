@@ -1,4 +1,5 @@
 // Task tables, plans and job lists: their rows as structs, their checks, and the answers that the operations share.
+#![tactic(auto)]
 ghost use Rattle.std.specs.Prelude.{◌≡◌, ◌⊎◌, ◌+◌, ◌*◌, ◌<◌, ◌≤◌, length};
 ghost use Rattle.tables.specs.Table.{Within, Sound, table_of, row_width, most_rows};
 ghost use Rattle.tables.specs.Plan.{plan_of, plan_width};

@@ -1,5 +1,6 @@
 // The public library: the seven operations as licensees call them. A promise here is the operation's own, with
 // number, place and value as C has them.
+#![tactic(auto)]
 ghost use Rattle.std.specs.Prelude.{[], ◌≡◌, length};
 ghost use Rattle.test.specs.Answers.{TimesAnswer, VerdictAnswer};
 ghost use Rattle.choice.specs.Answers.{PlanAnswer};
