@@ -1,5 +1,6 @@
 // A set of rows as one 32-bit number: row i is marked where binary digit i is 1.
 #![tactic(auto)]
+
 ghost use Rattle.std.specs.Prelude.{◌≡◌, true, false, ℕ, ◌≤◌, ◌<◌};
 ghost use Rattle.counting.specs.Sum.{count};
 ghost use Rattle.marks.specs.inside.Marks.{marked, Whole, Next, Both, Less, More};

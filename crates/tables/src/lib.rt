@@ -1,5 +1,6 @@
 // Task tables, plans and job lists: their rows as structs, their checks, and the answers that the operations share.
 #![tactic(auto)]
+
 ghost use Rattle.std.specs.Prelude.{◌≡◌, ◌⊎◌, ◌+◌, ◌*◌, ◌<◌, ◌≤◌, length};
 ghost use Rattle.tables.specs.Table.{Within, Sound, table_of, row_width, most_rows};
 ghost use Rattle.tables.specs.Plan.{plan_of, plan_width};
@@ -31,7 +32,7 @@ pub const MOST_JOBS: usize = 4096;
 pub const LAST_RELEASE: u32 = 1000000;
 
 // What an operation answers: given, with its value; or refused, with the place where the refusal has one.
-#[derive(Drop)]
+#[derive(Clone, Copy)]
 pub enum Answer {
     Given(u32),
     Sheet(u32),
@@ -47,7 +48,7 @@ pub enum Answer {
 
 // The answer as document 01 has it: the refusal's number, 0 where the answer is given; its place; and the given value.
 #[repr(C)]
-#[derive(Drop)]
+#[derive(Clone, Copy)]
 pub struct Said {
     pub number: u32,
     pub place: u32,
@@ -86,7 +87,7 @@ fn refused(number: u32, place: u32) -> Said
 }
 
 // One row of a task table: its run, deadline and spacing, and the start and the length of its middle region.
-#[derive(Drop)]
+#[derive(Clone, Copy)]
 pub struct Row {
     pub c: u32,
     pub d: u32,
@@ -97,7 +98,7 @@ pub struct Row {
 
 // What the checks of a task table answer: sound, with its number of rows; or refused, with the place where the refusal
 // has one.
-#[derive(Drop)]
+#[derive(Clone, Copy)]
 pub enum TableCheck {
     Sound(usize),
     Shape,
@@ -106,7 +107,7 @@ pub enum TableCheck {
 
 // What the check of a plan answers: well formed; or the first row at fault, 32 where the slice is not two numbers a
 // row.
-#[derive(Drop)]
+#[derive(Clone, Copy)]
 pub enum PlanCheck {
     WellFormed,
     AtFault(u32),
