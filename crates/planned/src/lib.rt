@@ -1,5 +1,6 @@
 // The writer of planned tables: each row's rank, length and response into its own part of the output.
 #![tactic(auto)]
+
 ghost use Rattle.std.specs.Prelude.{◌≡◌, ◌++◌, ◌*◌, ◌≤◌, length, drop};
 ghost use Rattle.tables.specs.Table.{most_rows};
 ghost use Rattle.tables.specs.Planned.{planned_width};

@@ -1,6 +1,7 @@
 // The right sides of the test's equations, over a level: what its rows ask with, packed, so that one walk over them
 // tests no marks and divides by nothing.
 #![tactic(auto)]
+
 pub mod periods;
 
 ghost use Rattle.std.specs.Prelude.{◌≡◌, true, ℕ, ◌+◌, ◌-◌, ◌*◌, ◌≤◌, ◌<◌, length};
