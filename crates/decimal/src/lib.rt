@@ -1,5 +1,6 @@
 // Decimal text and words into a lent buffer at a place; the promises say the whole buffer.
 #![tactic(auto)]
+
 ghost use Rattle.std.specs.Prelude.{◌≡◌, ◌++◌, ◌+◌, ◌≤◌, length};
 ghost use Rattle.decimal.specs.Decimal.{decimal};
 ghost use Rattle.decimal.specs.inside.Placed.{Put};

@@ -1,5 +1,6 @@
 // What play decides with: which job of a row is next, which release is next, which row's job runs, and how long.
 #![tactic(auto)]
+
 ghost use Rattle.std.specs.Prelude.{◌≡◌, ℕ, ◌≤◌, ◌<◌, get_or};
 ghost use Rattle.tables.specs.Table.{table_of, most, most_rows};
 ghost use Rattle.tables.specs.Plan.{plan_of};

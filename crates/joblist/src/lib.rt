@@ -1,5 +1,6 @@
 // The check of a job list: document 01's refusals 7 and 8, in one walk along the list.
 #![tactic(auto)]
+
 ghost use Rattle.std.specs.Prelude.{◌≡◌, ℕ, ◌+◌, ◌*◌, ◌≤◌, ◌<◌, length};
 ghost use Rattle.tables.specs.Table.{table_of, row_width, most_rows};
 ghost use Rattle.tables.specs.Jobs.{jobs_of};

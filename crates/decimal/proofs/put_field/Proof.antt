@@ -19,7 +19,7 @@ returns : tie.Need-returns
 returns c =
     let w = c.before.before.before.before.before.before in
     let s = w.before.before.before.before in
-    put_behind (omega (arith, s.requires, long s)) w.put_word.ensures c.before.before.put_number.ensures
+    put_behind (omega (arith, s.requires, long s)) w.put_word-behind.ensures c.before.before.put_number.ensures
 
 pub put_field_spec : {M : Type 1} → statement M
 put_field_spec =

@@ -50,13 +50,13 @@ module _ {b : List ℕ} {at x : ℕ} {buf : List ℕ} {place rest : ℕ} (w : Wr
       let n : place ≡ at = omega (arith, length_small rest h) in
       rw (w.text, decimal_small rest h, ← n) (digit (48 + rest))
 
-abbrev invariant_loop : tie.invariant-loop
+abbrev invariant_loop : tie.invariant-loop-rest
 invariant_loop buf₀ at x behind place₀ rest₀ buf place rest = Writing buf₀ at x buf place rest
 
-abbrev decreases_loop : tie.decreases-loop
+abbrev decreases_loop : tie.decreases-loop-rest
 decreases_loop buf₀ at x behind place₀ rest₀ buf place rest = rest
 
-loop_holds : tie.Need-loop-init invariant_loop decreases_loop
+loop_holds : tie.Need-loop-rest-init invariant_loop decreases_loop
 loop_holds c =
     let a = c.before.before.args in
     record {
@@ -66,18 +66,18 @@ loop_holds c =
       whole = paste-zero a.buf.now (a.at + c.width.result - 1 + 1) [];
     }
 
-within : (h : tie.At-loop invariant_loop decreases_loop) → h.loop.place < length h.loop.buf
-within h = let p = h.before.before.before.requires in omega (arith, same h.loop.invariant p, room h.loop.invariant p)
+within : (h : tie.At-loop-rest invariant_loop decreases_loop) → h.loop-rest.place < length h.loop-rest.buf
+within h = let p = h.before.before.before.requires in omega (arith, same h.loop-rest.invariant p, room h.loop-rest.invariant p)
 
-sub_place_2 : tie.Need-overflow-sub-place-2 invariant_loop decreases_loop
+sub_place_2 : tie.Need-overflow_sub-place-in-loop-rest invariant_loop decreases_loop
 sub_place_2 c =
-    let l = c.before.loop in omega (arith, length_big l.rest c.loop-test.true, some (l.rest / 10))
+    let l = c.before.loop-rest in omega (arith, length_big l.rest c.loop-rest-test.true, some (l.rest / 10))
 
 returns : tie.Need-returns invariant_loop decreases_loop
 returns c =
     record {
       behind = omega (arith, c.before.before.width.ensures);
-      whole = all c.before.loop.invariant c.before.before.before.before.requires c.loop-test.false;
+      whole = all c.before.loop-rest.invariant c.before.before.before.before.requires c.loop-rest-test.false;
     }
 
 pub put_number_spec : {M : Type 1} → statement M
@@ -85,6 +85,6 @@ put_number_spec =
     tie.close (tie.spec invariant_loop decreases_loop (λ c κs. search rules) (λ c. search rules)
     (λ c. omega (arith, c.width.ensures, some c.before.before.args.x)) loop_holds (λ c. search rules)
     (λ c. search rules) (λ c. within c.before) sub_place_2 (λ c. search rules)
-    (λ c. one_more c.before.loop.invariant c.before.before.before.before.requires c.loop-test.true)
+    (λ c. one_more c.before.loop-rest.invariant c.before.before.before.before.requires c.loop-rest-test.true)
     (λ c. search rules) (λ c. search rules) (λ c. within c.before)
-    (λ c. simp length-set (same c.before.loop.invariant c.before.before.before.before.requires)) returns)
+    (λ c. simp length-set (same c.before.loop-rest.invariant c.before.before.before.before.requires)) returns)

@@ -13,42 +13,42 @@ use Rattle.decision.proofs.Order.{row_of}
 use Rattle.decision.proofs.by_rank.Statement.{statement}
 use Rattle.decision.proofs.by_rank.Tie as tie
 
-abbrev invariant_loop : tie.invariant-loop
+abbrev invariant_loop : tie.invariant-loop-i
 invariant_loop table plan n order₀ i₀ order i =
     (i ≤ n)
     × (length order ≡ most_rows)
     × ((j : ℕ) → j < i → get_or order ((plan_of plan).rank j - 1) 0 ≡ j)
     × ((r : ℕ) → n ≤ r → get_or order r 0 ≡ 0)
 
-abbrev decreases_loop : tie.decreases-loop
+abbrev decreases_loop : tie.decreases-loop-i
 decreases_loop table plan n order₀ i₀ order i = n - i
 
 -- row i has a rank that no earlier row has
-module _ (c : tie.After-shared-slice-known invariant_loop decreases_loop) where
-  abbrev l : tie.At-loop invariant_loop decreases_loop
+module _ (c : tie.After-shared_slice_known-1 invariant_loop decreases_loop) where
+  abbrev l : tie.At-loop-i invariant_loop decreases_loop
   l = c.before.before
 
   abbrev i : ℕ
-  i = l.loop.i
+  i = l.loop-i.i
 
   abbrev rank : ℕ → ℕ
   rank = (plan_of l.before.args.plan.now).rank
 
   low : (j : ℕ) → j ≤ i → 1 ≤ rank j
-  low j h = l.before.pre.formed.rank-low j (omega arith)
+  low j h = l.before.requires.formed.rank_low j (omega arith)
 
   within : rank i ≤ (table_of l.before.args.table.now).n
-  within = l.before.pre.formed.rank-high i (omega arith)
+  within = l.before.requires.formed.rank_high i (omega arith)
 
   high : rank i ≤ most_rows
-  high = omega (arith, within, l.before.pre.sound.few)
+  high = omega (arith, within, l.before.requires.sound.few)
 
   new : (j : ℕ) → j < i → rank j - 1 ≡ rank i - 1 → ⊥
   new j h e =
       let same : rank j ≡ rank i = omega (arith, low j (omega arith), low i (omega arith)) in
-      omega (arith, l.before.pre.formed.once j i (omega arith) (omega arith) same)
+      omega (arith, l.before.requires.formed.once j i (omega arith) (omega arith) same)
 
-loop_holds : tie.Need-loop-init invariant_loop decreases_loop
+loop_holds : tie.Need-loop-i-init invariant_loop decreases_loop
 loop_holds c = (
   omega arith,
   refl,
@@ -56,10 +56,10 @@ loop_holds c = (
   λ r h. (holds_none {A = ℕ} 0 (λ _. 0) most_rows).past r (omega arith),
 )
 
-loop_again : tie.Need-loop-preserved invariant_loop decreases_loop
+loop_again : tie.Need-loop-i-preserved invariant_loop decreases_loop
 loop_again c =
-    let o = (l c).loop.order in
-    let inv = (l c).loop.invariant in
+    let o = (l c).loop-i.order in
+    let inv = (l c).loop-i.invariant in
     let r = rank c (i c) - 1 in (
       omega arith,
       simp length-set inv.1,
@@ -71,7 +71,7 @@ loop_again c =
 
 returns : tie.Need-returns invariant_loop decreases_loop
 returns c =
-    let l = c.before.loop in
+    let l = c.before.loop-i in
     let s = c.before.before in
     let n = (table_of s.args.table.now).n in
     let row = row_of (table_of s.args.table.now) (plan_of s.args.plan.now) s.requires.formed in

@@ -25,17 +25,17 @@ module _ (s : tie.Start) where
   i = s.args.i
 
   row : SoundRow tb i
-  row = s.pre.0.sound.row i s.pre.1
+  row = s.requires.0.sound.row i s.requires.1
 
   -- the middle region ends before the final one begins
   ends : region_end tb i + p.len i ≤ tb.C i
-  ends = let w = s.pre.0.formed in cap_end tb i (w.len-low i s.pre.1) (w.len-high i s.pre.1)
+  ends = let w = s.requires.0.formed in cap_end tb i (w.len_low i s.requires.1) (w.len_high i s.requires.1)
 
-add_if1_2 : tie.Need-overflow-add-if1-2
+add_if1_2 : tie.Need-overflow_add-e
 add_if1_2 c = let s = c.before.before in omega (arith, ends s, (row s).C, s.requires.2, s.requires.3)
 
 -- in its final region
-returns : tie.Need-returns
+returns : tie.Need-returns-then-table-at
 returns c =
     let s = c.before.before.before in
     record {
@@ -45,11 +45,11 @@ returns c =
       ends = inl refl;
     }
 
-add_end_2 : tie.Need-overflow-add-end-2
+add_end_2 : tie.Need-overflow_add-end-2
 add_end_2 c = let s = c.before.before.before.before.before in omega (arith, row s)
 
 -- the final region is not begun
-module _ (c : tie.After-shared-slice-known4) where
+module _ (c : tie.After-shared_slice_known-4-1) where
   abbrev s : tie.Start
   s = c.before.before.before.before.before
 
@@ -59,9 +59,9 @@ module _ (c : tie.After-shared-slice-known4) where
   loose over =
       record {
         low = omega arith;
-        high = omega (arith, s.pre.2);
+        high = omega (arith, s.requires.2);
         held = λ x h l. absurd (omega arith);
-        ends = inr (not_locked (tb s) (p s) (i s) s.args.e (omega (arith, c.before.before.if1.false)) over);
+        ends = inr (not_locked (tb s) (p s) (i s) s.args.e (omega (arith, c.before.before.if-table-at.false)) over);
       }
 
   -- and in the middle one it is locked as long as that lasts
@@ -69,30 +69,30 @@ module _ (c : tie.After-shared-slice-known4) where
       locked (tb s) (p s) (i s) x ≡ true
   inside begun x h l = locked_middle (tb s) (p s) (i s) x (omega arith) l
 
-returns_2 : tie.Need-returns-2
-returns_2 c = loose c.before (λ begun. absurd (omega (arith, c.if2.true)))
+returns_2 : tie.Need-returns-then-e-start
+returns_2 c = loose c.before (λ begun. absurd (omega (arith, c.if-e-start.true)))
 
-returns_3 : tie.Need-returns-3
-returns_3 c = loose c.before.before (λ _. c.if3.true)
+returns_3 : tie.Need-returns-then-end-e
+returns_3 c = loose c.before.before (λ _. c.if-end-e.true)
 
-returns_4 : tie.Need-returns-4
+returns_4 : tie.Need-returns-then-run-end
 returns_4 c =
     let d = c.before.before.before in
     record {
       low = omega (arith, (s d).requires.2);
       high = omega arith;
-      held = λ x h l. inside d c.before.before.if2.false x h (omega (arith, c.if4.true));
+      held = λ x h l. inside d c.before.before.if-e-start.false x h (omega (arith, c.if-run-end.true));
       ends = inl refl;
     }
 
-returns_5 : tie.Need-returns-5
+returns_5 : tie.Need-returns
 returns_5 c =
     let d = c.before.before.before in
     let z = s d in
     record {
-      low = omega (arith, c.before.if3.false);
-      high = omega (arith, c.if4.false);
-      held = λ x h l. inside d c.before.before.if2.false x h (omega arith);
+      low = omega (arith, c.before.if-end-e.false);
+      high = omega (arith, c.if-run-end.false);
+      held = λ x h l. inside d c.before.before.if-e-start.false x h (omega arith);
       ends = inr (not_locked (tb z) (p z) (i z) (region_end (tb z) (i z)) (ends z) (λ _. omega arith));
     }
 

@@ -11,30 +11,30 @@ use Rattle.decision.proofs.stretch.Statement.{statement}
 use Rattle.decision.proofs.stretch.Tie as tie
 
 -- no release is to come
-returns : tie.Need-returns
+returns : tie.Need-returns-then-jobs-next
 returns c =
     let left = c.before.before.before.before.requires.2 in
     record {
       some = omega arith;
       within = omega arith;
-      calm = λ x h m. absurd (omega (arith, c.if1.true));
+      calm = λ x h m. absurd (omega (arith, c.if-jobs-next.true));
       ends = inl (omega arith);
     }
 
 -- the next release comes later
-module _ (c : tie.After-shared-slice-known4) where
+module _ (c : tie.After-shared_slice_known-4-1) where
   abbrev s : tie.Start
   s = c.before.before.before.before.before
 
   comes : s.args.next < (jobs_of s.args.jobs.now).N
-  comes = omega (arith, c.before.if1.false)
+  comes = omega (arith, c.before.if-jobs-next.false)
 
   later : s.args.t < (jobs_of s.args.jobs.now).release s.args.next
-  later = s.pre.4 comes
+  later = s.requires.4 comes
 
-returns_2 : tie.Need-returns-2
+returns_2 : tie.Need-returns-then-left-until
 returns_2 c =
-    let left = (s c.before).pre.2 in
+    let left = (s c.before).requires.2 in
     let later = later c.before in
     record {
       some = omega arith;
@@ -43,14 +43,14 @@ returns_2 c =
       ends = inl (omega arith);
     }
 
-held_to_requires : tie.Need-held-to-requires
+held_to_requires : tie.Need-held_to-requires
 held_to_requires c κs =
     let b = c.before in
     let z = s b in
-    (z.pre.0, z.pre.1, omega (arith, later b), z.pre.3)
+    (z.requires.0, z.requires.1, omega (arith, later b), z.requires.3)
 
 -- on from the release for as long as it is locked
-returns_3 : tie.Need-returns-3
+returns_3 : tie.Need-returns
 returns_3 c =
     let b = c.before.before in
     let z = s b in

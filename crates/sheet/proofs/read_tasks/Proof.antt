@@ -102,7 +102,7 @@ put_ticks_requires c κs =
     let room : row_width ≤ length (drop (row_width * l.n) l.table) = simp length-drop (omega arith) in (
       rw e (length-take-le row_width (drop (row_width * l.n) l.table) room),
       (line k).allowed,
-      (s k).requires.0.tick-within,
+      (s k).requires.0.tick_within,
     )
 
 returns_2 : tie.Need-returns-2 invariant_loop decreases_loop

@@ -11,45 +11,45 @@ use Rattle.sides.proofs.Summed.{Summed, summed_none, summed_within, summed_more,
 use Rattle.sides.proofs.busy_side.Statement.{statement}
 use Rattle.sides.proofs.busy_side.Tie as tie
 
-abbrev invariant_loop : tie.invariant-loop
+abbrev invariant_loop : tie.invariant-loop-p
 invariant_loop level runs t rows sum₀ p₀ total p = Summed (part_of level (t - 1)) (many level) total p
 
-abbrev decreases_loop : tie.decreases-loop
+abbrev decreases_loop : tie.decreases-loop-p
 decreases_loop level runs t rows sum₀ p₀ total p = rows - p
 
 -- the tick up to which releases count
 within : (s : tie.Start invariant_loop decreases_loop) → s.args.t - 1 ≤ horizon
 within s = let p = s.requires.3 in omega arith
 
-add_sum : tie.Need-overflow-add-sum invariant_loop decreases_loop
+add_sum : tie.Need-overflow_add-sum invariant_loop decreases_loop
 unfolding later
 add_sum c =
     let l = c.before in
     let s = l.before.before.before in
     omega (
       arith,
-      summed_within l.before.loop.invariant l.loop-test.true c.part.ensures,
+      summed_within l.before.loop-p.invariant l.loop-p-test.true c.part-sum.ensures,
       later_small s.requires.0 (within s),
     )
 
-loop_again : tie.Need-loop-preserved invariant_loop decreases_loop
+loop_again : tie.Need-loop-p-preserved invariant_loop decreases_loop
 loop_again c =
     let l = c.before in
-    summed_more l.before.loop.invariant l.loop-test.true c.part.ensures
+    summed_more l.before.loop-p.invariant l.loop-p-test.true c.part-sum.ensures
 
 -- all rows are passed
-module _ (c : tie.After-loop invariant_loop decreases_loop) where
+module _ (c : tie.After-loop-p invariant_loop decreases_loop) where
   abbrev S : tie.Start invariant_loop decreases_loop
   S = c.before.before.before
 
-  all : c.before.loop.sum ≡ later S.args.level.now (S.args.t - 1)
+  all : c.before.loop-p.sum ≡ later S.args.level.now (S.args.t - 1)
   unfolding later
-  all = summed_all c.before.loop.invariant c.loop-test.false
+  all = summed_all c.before.loop-p.invariant c.loop-p-test.false
 
 pub busy_side_spec : {M : Type 1} → statement M
 busy_side_spec = tie.close (tie.spec invariant_loop decreases_loop (λ c. summed_none) (λ c. search rules)
-    (λ c κs. let s = c.before.before.before in (s.requires.0, c.loop-test.true, within s)) add_sum
+    (λ c κs. let s = c.before.before.before in (s.requires.0, c.loop-p-test.true, within s)) add_sum
     (λ c. search rules) (λ c. search rules) loop_again
     (λ c. let s = S c in
-    omega (arith, all c, later_small s.pre.0 (within s), s.pre.1, runs_small s.pre.0))
+    omega (arith, all c, later_small s.requires.0 (within s), s.requires.1, runs_small s.requires.0))
     (λ c. omega (arith, all c, (S c).requires.1)))

@@ -9,36 +9,36 @@ use Rattle.sides.proofs.Summed.{Summed, summed_none, summed_within, summed_more,
 use Rattle.sides.proofs.later.Statement.{statement}
 use Rattle.sides.proofs.later.Tie as tie
 
-abbrev invariant_loop : tie.invariant-loop
+abbrev invariant_loop : tie.invariant-loop-p
 invariant_loop level t s rows sum₀ p₀ total p = Summed (part_of level s) (many level) total p
 
-abbrev decreases_loop : tie.decreases-loop
+abbrev decreases_loop : tie.decreases-loop-p
 decreases_loop level t s rows sum₀ p₀ total p = rows - p
 
 -- the row in hand
 module _ (c : tie.After-part invariant_loop decreases_loop) where
-  abbrev l : tie.In-loop invariant_loop decreases_loop
+  abbrev l : tie.In-loop-p invariant_loop decreases_loop
   l = c.before
 
-  within : l.before.loop.sum + c.part.result ≤ horizon
+  within : l.before.loop-p.sum + c.part.result ≤ horizon
   unfolding later
   within = omega (
     arith,
-    summed_within l.before.loop.inv l.loop-test.taken c.part.ensures,
-    l.before.before.before.pre.3,
+    summed_within l.before.loop-p.invariant l.loop-p-test.true c.part.ensures,
+    l.before.before.before.requires.3,
   )
 
 part_requires : tie.Need-part-requires invariant_loop decreases_loop
 part_requires c κs =
     let p = c.before.before.before.requires in
-    (p.0, c.loop-test.true, omega (arith, p.2))
+    (p.0, c.loop-p-test.true, omega (arith, p.2))
 
-loop_again : tie.Need-loop-preserved invariant_loop decreases_loop
-loop_again c = summed_more (l c).before.loop.invariant (l c).loop-test.true c.part.ensures
+loop_again : tie.Need-loop-p-preserved invariant_loop decreases_loop
+loop_again c = summed_more (l c).before.loop-p.invariant (l c).loop-p-test.true c.part.ensures
 
 returns : tie.Need-returns invariant_loop decreases_loop
 unfolding later
-returns c = summed_all c.before.loop.invariant c.loop-test.false
+returns c = summed_all c.before.loop-p.invariant c.loop-p-test.false
 
 pub later_spec : {M : Type 1} → statement M
 later_spec = tie.close (tie.spec invariant_loop decreases_loop (λ c. c.before.requires.1) (λ c. search rules) (λ c. summed_none)

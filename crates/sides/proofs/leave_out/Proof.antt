@@ -7,17 +7,17 @@ use Rattle.counting.proofs.Cases.{not_both}
 use Rattle.sides.proofs.leave_out.Statement.{statement}
 use Rattle.sides.proofs.leave_out.Tie as tie
 
-fits : (t : tie.Then1) → t.before.args.p < t.before.args.m
-fits t = t.before.requires.2 t.if1.true
+fits : (t : tie.Then-inside) → t.before.args.p < t.before.args.m
+fits t = t.before.requires.2 t.if-inside.true
 
-returns : tie.Need-returns
+returns : tie.Need-returns-then-inside
 returns c =
     let t = c.before.before in
-    record { out = λ _. (refl, refl); stays = λ e. not_both t.before.args.inside e t.if1.true }
+    record { out = λ _. (refl, refl); stays = λ e. not_both t.before.args.inside e t.if-inside.true }
 
-returns_2 : tie.Need-returns-2
+returns_2 : tie.Need-returns
 returns_2 c =
-    record { out = λ e. not_both c.before.args.inside c.if1.false e; stays = λ _. (refl, refl) }
+    record { out = λ e. not_both c.before.args.inside c.if-inside.false e; stays = λ _. (refl, refl) }
 
 pub leave_out_spec : {M : Type 1} → statement M
 leave_out_spec = tie.close (tie.spec (λ c. omega (arith, fits c)) (λ c. omega (arith, c.before.requires.0))

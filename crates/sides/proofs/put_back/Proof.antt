@@ -8,21 +8,21 @@ use Rattle.tables.specs.Table.{most_rows}
 use Rattle.sides.proofs.put_back.Statement.{statement}
 use Rattle.sides.proofs.put_back.Tie as tie
 
-module _ (t : tie.Then1) where
+module _ (t : tie.Then-inside) where
   few : t.before.args.i < most_rows
   few = omega (arith, t.before.requires.0, t.before.requires.1)
 
   fits : t.before.args.p < most_rows
-  fits = t.before.pre.3 t.if1.taken
+  fits = t.before.requires.3 t.if-inside.true
 
-returns : tie.Need-returns
+returns : tie.Need-returns-then-inside
 returns c =
     let t = c.before.before in
-    record { in_place = λ _. refl; stays = λ e. not_both t.before.args.inside e t.if1.true }
+    record { in_place = λ _. refl; stays = λ e. not_both t.before.args.inside e t.if-inside.true }
 
-returns_2 : tie.Need-returns-2
+returns_2 : tie.Need-returns-else-inside
 returns_2 c =
-    record { in_place = λ e. not_both c.before.args.inside c.if1.false e; stays = λ _. refl }
+    record { in_place = λ e. not_both c.before.args.inside c.if-inside.false e; stays = λ _. refl }
 
 pub put_back_spec : {M : Type 1} → statement M
 put_back_spec = tie.close (tie.spec (λ c. omega (arith, few c)) (λ c. omega (arith, fits c))

@@ -12,7 +12,7 @@ module _ (s : tie.Start) where
   upto_s : later s.args.level.now (s.args.s + 1 - 1) ≡ later s.args.level.now s.args.s
   upto_s = let e : s.args.s + 1 - 1 ≡ s.args.s = omega arith in ap (later s.args.level.now) e
 
-add_result : tie.Need-overflow-add-result
+add_result : tie.Need-overflow_add-result
 add_result c = let s = c.before.before in omega (arith, c.later.ensures, upto_s s, s.requires.2)
 
 pub start_side_spec : {M : Type 1} → statement M
