@@ -1,6 +1,5 @@
 -- `active_side` meets its contract.
 use native.Mathlib.Omega.{arith}
-use borrow.Author.Rules.{rules}
 use Rattle.sides.proofs.active_side.Goals as goal
 
 pub later-requires : goal.later-requires

@@ -1,13 +1,9 @@
 -- `active_period` meets its contract: the iteration climbs to the active period.
-use Prim.Native.Nat.{◌≤◌, ◌+◌, ◌-◌}
 use mathlib.Core.Path.{sym, ◌∙◌}
 use native.Mathlib.Omega.{arith}
-use Rattle.test.specs.Test.{horizon}
-use Rattle.counting.proofs.Least.{Climbing, climbing_stops}
-use Rattle.sides.specs.inside.Level.{active_of}
+use Rattle.counting.proofs.Least.{climbing_stops}
 use Rattle.sides.proofs.Level.{active_of_mono}
 use Rattle.sides.proofs.Climb.{reached_first, next_within, reached_next}
-use borrow.Author.Rules.{rules}
 use Rattle.sides.proofs.periods.active_period.Goals as goal
 
 pub loop-t-init : goal.loop-t-init
@@ -15,14 +11,12 @@ loop-t-init c = reached_first (active_of_mono _ _) c.requires.1
 
 pub loop-t-preserved : goal.loop-t-preserved
 loop-t-preserved c =
-    let a = c.before.before in
-    let l = a.before in
-    reached_next (active_of_mono _ _) l.requires.1 l.loop-t.invariant a.active_side-next.ensures
+    reached_next (active_of_mono _ _) c.requires.1 c.loop-t.invariant c.active_side-next.ensures
 
 pub loop-t-smaller : goal.loop-t-smaller
 loop-t-smaller c =
-    let a = c.before.before in
-    omega (arith, (loop-t-preserved c.before).1, a.loop-t.invariant.0.up, a.active_side-next.ensures, c.if-next-t.false)
+    let next = reached_next (active_of_mono _ _) c.requires.1 c.loop-t.invariant c.active_side-next.ensures in
+    omega (arith, next.1, c.loop-t.invariant.0.up, c.active_side-next.ensures, c.if-next-t.false)
 
 pub returns : goal.returns
 returns c = climbing_stops c.loop-t.invariant.0 (sym c.if-next-t.true ∙ c.active_side-next.ensures)

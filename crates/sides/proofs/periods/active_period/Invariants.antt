@@ -1,12 +1,8 @@
 -- `active_period` meets its contract: the iteration climbs to the active period.
 use Prim.Native.Nat.{◌≤◌, ◌+◌, ◌-◌}
-use mathlib.Core.Path.{sym, ◌∙◌}
-use native.Mathlib.Omega.{arith}
 use Rattle.test.specs.Test.{horizon}
-use Rattle.counting.proofs.Least.{Climbing, climbing_stops}
+use Rattle.counting.proofs.Least.{Climbing}
 use Rattle.sides.specs.inside.Level.{active_of}
-use Rattle.sides.proofs.Level.{active_of_mono}
-use Rattle.sides.proofs.Climb.{reached_first, next_within, reached_next}
 use Rattle.sides.proofs.periods.active_period.Given as goal
 
 abbrev pub invariant-loop-t : goal.invariant-loop-t

@@ -1,12 +1,8 @@
 -- `busy_period` meets its contract: the iteration climbs to the busy period, or passes the horizon.
 use Prim.Native.Nat.{◌+◌, ◌-◌}
-use mathlib.Core.Path.{◌≡◌, sym, ◌∙◌}
-use native.Mathlib.Omega.{arith}
 use Rattle.test.specs.Test.{horizon}
-use Rattle.counting.proofs.Least.{Climbing, climbing_lo, climbing_stops}
+use Rattle.counting.proofs.Least.{Climbing}
 use Rattle.sides.specs.inside.Level.{busy_of}
-use Rattle.sides.proofs.Level.{later_none, busy_of_mono}
-use Rattle.sides.proofs.Climb.{climbs}
 use Rattle.sides.proofs.periods.busy_period.Given as goal
 
 abbrev pub invariant-loop-next : goal.invariant-loop-next
