@@ -19,19 +19,19 @@ use Rattle.responses.proofs.Stored.{stored, unreached}
 use Rattle.responses.proofs.responses.Statement.{statement}
 use Rattle.responses.proofs.responses.Tie as tie
 
-abbrev invariant_loop : tie.invariant-loop
+abbrev invariant_loop : tie.invariant-loop-i
 invariant_loop rows n asks plan blocks times₀ level₀ i₀ times level i =
     (i ≤ n) × (length times ≡ most_rows) ×
     ((j : ℕ) → j < i → ResponseOf (table_in rows n) (plan_of plan) j (get_or times j 0))
     × ((j : ℕ) → i ≤ j → get_or times j 0 ≡ 0)
     × (length level ≡ ask_width * most_rows)
 
-abbrev decreases_loop : tie.decreases-loop
+abbrev decreases_loop : tie.decreases-loop-i
 decreases_loop rows n asks plan blocks times₀ level₀ i₀ times level i = n - i
 
 -- the row in hand
-module _ (l : tie.In-loop invariant_loop decreases_loop) where
-  abbrev made : tie.After-blocks-of invariant_loop decreases_loop
+module _ (l : tie.In-loop-i invariant_loop decreases_loop) where
+  abbrev made : tie.After-blocks_of-blocks invariant_loop decreases_loop
   made = l.before.before
 
   abbrev s : tie.Start invariant_loop decreases_loop
@@ -42,29 +42,29 @@ module _ (l : tie.In-loop invariant_loop decreases_loop) where
   table n = table_in s.args.rows n
 
   rows : many s.args.asks.now ≡ s.args.n
-  rows = omega (arith, s.pre.1.long)
+  rows = omega (arith, s.requires.1.long)
 
 -- with the rows above it and its blocking
-module _ (c : tie.After-blocking-of invariant_loop decreases_loop) where
-  abbrev l : tie.In-loop invariant_loop decreases_loop
+module _ (c : tie.After-blocking_of-b invariant_loop decreases_loop) where
+  abbrev l : tie.In-loop-i invariant_loop decreases_loop
   l = c.before.before.before.before.before
 
   abbrev above : ℕ
-  above = c.before.before.above_of.result
+  above = c.before.before.above_of-above.result
 
   abbrev b : ℕ
-  b = c.blocking_of.result
+  b = c.blocking_of-b.result
 
   abbrev i : ℕ
-  i = l.before.loop.i
+  i = l.before.loop-i.i
 
   placed : Placed (table l (s l).args.n) (s l).args.plan.now i above b
   placed =
       record {
-        planned = (s l).pre.0;
-        row = l.loop-test.taken;
-        over = c.before.before.above_of.ensures;
-        under = blocking_in _ _ _ _ b (made l).blocks_of.ensures c.blocking_of.ensures;
+        planned = (s l).requires.0;
+        row = l.loop-i-test.true;
+        over = c.before.before.above_of-above.ensures;
+        under = blocking_in _ _ _ _ b (made l).blocks_of-blocks.ensures c.blocking_of-b.ensures;
       }
 
 -- and its response
@@ -77,7 +77,7 @@ responds c =
     subst (λ m. Response (table (l d) m) (marked (above d)) (b d) (i d) q c.response.result) (rows (l d))
     c.response.ensures
 
-loop_holds : tie.Need-loop-init invariant_loop decreases_loop
+loop_holds : tie.Need-loop-i-init invariant_loop decreases_loop
 loop_holds c = (search rules, refl, below_none _, λ j _. zeros most_rows j, refl)
 
 response_requires : tie.Need-response-requires invariant_loop decreases_loop
@@ -85,27 +85,27 @@ response_requires c κs =
     let d = c.before in
     let z = s (l d) in (
       subst (λ m. Ranked (table (l d) m) z.args.asks.now (above d) (b d) (i d)
-          ((plan_of z.args.plan.now).len (i d))) (sym (rows (l d))) (ranked (placed d) z.pre.1),
-      (l d).before.loop.invariant.4,
+          ((plan_of z.args.plan.now).len (i d))) (sym (rows (l d))) (ranked (placed d) z.requires.1),
+      (l d).before.loop-i.invariant.4,
     )
 
-loop_again : tie.Need-loop-preserved invariant_loop decreases_loop
+loop_again : tie.Need-loop-i-preserved invariant_loop decreases_loop
 loop_again c =
     let x = c.before in
     let w = placed x.before.before in
-    let here = (l x.before.before).before.loop in
+    let here = (l x.before.before).before.loop-i in
     let R = x.response.result in (
       search rules,
-      length-set here.times here.i R ∙ here.inv.1,
+      length-set here.times here.i R ∙ here.invariant.1,
       stored (ResponseOf _ _) here.times here.i R
-          (omega (arith, w.row, w.planned.sound.few, here.inv.1)) here.inv.2 (response_here w (responds x)),
-      unreached here.times here.i R here.inv.3,
-      x.response.auto.1.1.0 ∙ here.inv.4,
+          (omega (arith, w.row, w.planned.sound.few, here.invariant.1)) here.invariant.2 (response_here w (responds x)),
+      unreached here.times here.i R here.invariant.3,
+      x.response.auto.level ∙ here.invariant.4,
     )
 
 returns : tie.Need-returns invariant_loop decreases_loop
 returns c =
-    let here = c.before.loop in
+    let here = c.before.loop-i in
     record {
       each = λ j h. here.invariant.2 j (omega arith);
       past = λ j h. here.invariant.3 j (omega arith);
@@ -117,7 +117,7 @@ responses_spec = tie.close (tie.spec invariant_loop decreases_loop
     (λ c κs. let p = c.before.before.requires.0 in (p.sound.few, p.whole)) loop_holds (λ c. search rules)
     (λ c. search rules)
     (λ c. search rules) (λ c. search rules) (λ c. search rules) (λ c. search rules)
-    (λ c κs. let p = (s c.before.before).pre.0 in (p.sound.few, p.whole))
-    (λ c κs. let p = (s c.before.before.before.before).pre.0 in (p.sound.few, p.whole))
-    (λ c. sym (l c.before).before.loop.inv.4) response_requires (λ c. search rules)
+    (λ c κs. let p = (s c.before.before).requires.0 in (p.sound.few, p.whole))
+    (λ c κs. let p = (s c.before.before.before.before).requires.0 in (p.sound.few, p.whole))
+    (λ c. sym (l c.before).before.loop-i.invariant.4) response_requires (λ c. search rules)
     (λ c. search rules) (λ c. search rules) (λ c. search rules) loop_again returns)
