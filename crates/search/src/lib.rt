@@ -1,6 +1,7 @@
 // The rank search: the ranks filled from n down to 1, each by the unplaced row that blocks with the least at its shortest
 // passing length, the earliest among equals; until every row is placed or no row has a passing length.
 #![tactic(auto)]
+
 ghost use Rattle.std.specs.Prelude.{◌≡◌, ◌+◌, ◌*◌, ◌≤◌, ◌<◌};
 ghost use Rattle.tables.specs.Table.{most, Sound};
 ghost use Rattle.tables.specs.inside.Rows.{table_in, EndsBeforeRun};

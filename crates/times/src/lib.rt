@@ -1,5 +1,6 @@
 // The operations times and verdict: the checks in their order, then the responses of the plan's rows.
 #![tactic(auto)]
+
 ghost use Rattle.std.specs.Prelude.{[], ◌*◌, ◌≤◌, length};
 ghost use Rattle.tables.specs.Table.{most_rows, table_of};
 ghost use Rattle.tables.specs.inside.Rows.{table_in, SoundSlice};

@@ -43,14 +43,15 @@ use Rattle.search.proofs.Seen.{Seen, worth_le, seen_first, seen_same, seen_bette
 use Rattle.search.proofs.Runs.{runs_first, runs_enough, runs_more}
 use Rattle.search.proofs.Going.{Going, going_first, going_room, going_stops, going_ends, going_more}
 use Rattle.search.proofs.fill.Statement.{statement}
+use Rattle.search.proofs.fill.Lts.{then-due-s, else-due-s+then-next-s+then-period-released, then-passes, else-passes}
 use Rattle.search.proofs.fill.Tie as tie
 
-abbrev invariant_loop : tie.invariant-loop
+abbrev invariant_loop : tie.invariant-loop-s
 invariant_loop n asks busy rows plan times level repeats unplaced runs b rank packed all first period row best shortest
     response rest i own c t cap inside at above low high time len k largest s₀ released due base s =
     Trial (table_in rows n) (without (marked unplaced) i) b i len period k s largest
 
-abbrev decreases_loop : tie.decreases-loop
+abbrev decreases_loop : tie.decreases-loop-s
 decreases_loop n asks busy rows plan times level repeats unplaced runs b rank packed all first period row best shortest
     response rest i own c t cap inside at above low high time len k largest s₀ released due base s =
     horizon + 1 - s
@@ -96,7 +97,7 @@ abbrev decreases_ranks : tie.decreases-ranks
 decreases_ranks n asks busy rows plan₀ times₀ level₀ repeats unplaced₀ runs₀ b₀ plan times level unplaced runs b = unplaced
 
 -- a place, or a need, under these invariants
-abbrev Under : (tie.invariant-loop → tie.decreases-loop → tie.invariant-jobs → tie.decreases-jobs → tie.invariant-lengths →
+abbrev Under : (tie.invariant-loop-s → tie.decreases-loop-s → tie.invariant-jobs → tie.decreases-jobs → tie.invariant-lengths →
     tie.decreases-lengths → tie.invariant-rows → tie.decreases-rows → tie.invariant-ranks → tie.decreases-ranks → Type 0) → Type 0
 Under X = X invariant_loop decreases_loop invariant_jobs decreases_jobs invariant_lengths decreases_lengths invariant_rows decreases_rows invariant_ranks decreases_ranks
 
@@ -106,7 +107,7 @@ module _ (s : Under tie.At-ranks) where
   B = s.before.before.before.before.before
 
   abbrev tb : Table
-  tb = table_in B.args.t1 B.args.n
+  tb = table_in B.args.rows B.args.n
 
   -- the rows not placed
   abbrev unplaced : ℕ
@@ -120,13 +121,13 @@ module _ (s : Under tie.At-ranks) where
 
   -- the rows that are released again
   abbrev repeats : ℕ
-  repeats = s.before.before.before.again_of.result
+  repeats = s.before.before.before.again_of-again.result
 
   pos : Positive tb
-  pos = sound_positive tb B.pre.0
+  pos = sound_positive tb B.requires.0
 
   rows_many : many B.args.asks.now ≡ B.args.n
-  rows_many = omega (arith, B.pre.3.long)
+  rows_many = omega (arith, B.requires.3.long)
 
 module _ (d : Under tie.In-ranks) where
   -- the level that is searched
@@ -134,17 +135,17 @@ module _ (d : Under tie.In-ranks) where
       Searchable (tb s) (B s).args.asks.now (unplaced s) (repeats s) (b s) s.ranks.runs
   searched =
       let s = d.before in
-      let p = (B s).pre in
+      let p = (B s).requires in
       record {
         sound = p.0;
         asked = p.3;
-        inside = s.ranks.inv.0.inside;
-        some = pos_of_ne-zero d.ranks-test.taken;
+        inside = s.ranks.invariant.0.inside;
+        some = pos_of_ne-zero d.ranks-test.true;
         busy = record { period = (B s).args.busy; busy = p.1; within = p.2 };
-        room = going_room (tb s) (pos s) s.ranks.inv.0;
+        room = going_room (tb s) (pos s) s.ranks.invariant.0;
         repeat = again_asked (repeats s) p.0 p.3 p.1.low p.2
-            s.before.before.before.again_of.ensures;
-        first = s.ranks.inv.2;
+            s.before.before.before.again_of-again.ensures;
+        first = s.ranks.invariant.2;
       }
 
   -- it has a row
@@ -152,8 +153,8 @@ module _ (d : Under tie.In-ranks) where
   some = something (unplaced d.before) searched.some
 
 -- ---- the level, packed: the rows of it that are released again
-module _ (w : Under tie.After-level-of) where
-  abbrev packs : Under tie.After-both
+module _ (w : Under tie.After-level_of-all) where
+  abbrev packs : Under tie.After-both-packed
   packs = w.before.before
 
   abbrev turn : Under tie.In-ranks
@@ -163,71 +164,71 @@ module _ (w : Under tie.After-level-of) where
   S = turn.before
 
   abbrev set : ℕ
-  set = packs.both.result
+  set = packs.both-packed.result
 
   abbrev bound : ℕ
   bound = (searched turn).busy.period
 
   kept : Kept (tb S) (U S) bound (marked set)
-  kept j l = packs.both.ensures j ∙ ap (λ x. U S j && x) ((searched turn).repeat j l)
+  kept j l = packs.both-packed.ensures j ∙ ap (λ x. U S j && x) ((searched turn).repeat j l)
 
   abbrev all : List ℕ
-  all = w.level_of.last.1.1.0
+  all = w.level_of-all.new.level
 
   all_whole : length all ≡ ask_width * most_rows
-  all_whole = w.level_of.kept.1.1.0 ∙ S.ranks.inv.1
+  all_whole = w.level_of-all.auto.level ∙ S.ranks.invariant.1
 
-  all_fits : ask_width * w.level_of.result ≤ length all
-  all_fits = omega (arith, w.level_of.ensures.few, all_whole)
+  all_fits : ask_width * w.level_of-all.result ≤ length all
+  all_fits = omega (arith, w.level_of-all.ensures.few, all_whole)
 
   short_bound : bound ≤ horizon + 1
   short_bound = omega (arith, (searched turn).busy.within)
 
-  all_asking : Asking (tb S) (U S) bound (take (ask_width * w.level_of.result) all)
-  all_asking = asking_packed (B S).pre.0 (B S).pre.3 short_bound kept all_whole w.level_of.ensures
+  all_asking : Asking (tb S) (U S) bound (take (ask_width * w.level_of-all.result) all)
+  all_asking = asking_packed (B S).requires.0 (B S).requires.3 short_bound kept all_whole w.level_of-all.ensures
 
   -- what it asks for in the first tick
   abbrev first : ℕ
   first = b S + S.ranks.runs
 
   asks_runs : first ≡ b S + load upto (tb S) (U S) 0
-  asks_runs = omega (arith, S.ranks.inv.2)
+  asks_runs = omega (arith, S.ranks.invariant.2)
 
-  period_there : FixedWithin (active_of (take (ask_width * w.level_of.result) all) first) 1 first
+  period_there : FixedWithin (active_of (take (ask_width * w.level_of-all.result) all) first) 1 first
   period_there = period_exists (searched turn) _ (some turn) all_asking asks_runs
 
 -- ---- the row in hand
-module _ (h : Under tie.After-next) where
+module _ (h : Under tie.After-next-i) where
   abbrev rows : Under tie.At-rows
   rows = h.before.before
 
-  abbrev A : Under tie.After-active-period
+  abbrev A : Under tie.After-active_period-period
   A = rows.before
 
-  abbrev W : Under tie.After-level-of
+  abbrev W : Under tie.After-level_of-all
   W = A.before.before.before
 
   abbrev L : ℕ
-  L = A.active_period.result
+  L = A.active_period-period.result
 
   abbrev i : ℕ
-  i = h.next.result
+  i = h.next-i.result
 
   -- the rows above it
   abbrev P : ℕ → Bool
   P = without (U (S W)) i
 
   among : U (S W) i ≡ true
-  among = rows.rows.inv.0.among i h.next.ensures.first.holds
+  among = rows.rows.invariant.0.among i h.next-i.ensures.first.holds
 
   inside : i < (tb (S W)).n
-  inside = (S W).ranks.inv.0.inside i among
+  inside = (S W).ranks.invariant.0.inside i among
 
   asked : i < many (B (S W)).args.asks.now
   asked = omega (arith, rows_many (S W), inside)
 
   active : Active (tb (S W)) P (b (S W)) i L
-  active = period_found (searched (turn W)) i among (all_asking W) (asks_runs W) A.active_period.ensures
+  active = period_found (searched (turn W)) i among (all_asking W) (asks_runs W) A.active_period-period.ensures
 
   in_busy : L ≤ bound W
   in_busy = period_within (searched (turn W)) i among active
@@ -239,25 +240,25 @@ module _ (h : Under tie.After-next) where
   first_is = period_first (searched (turn W)) i among (all_asking W) (asks_runs W)
 
   runs : Within ((tb (S W)).C i)
-  runs = ((B (S W)).pre.0.row i inside).C
+  runs = ((B (S W)).requires.0.row i inside).C
 
   spaced : Within ((tb (S W)).T i)
-  spaced = ((B (S W)).pre.0.row i inside).T
+  spaced = ((B (S W)).requires.0.row i inside).T
 
 -- ---- its longest length worth a try
-module _ (c : Under tie.After-cap-of) where
+module _ (c : Under tie.After-cap_of-cap) where
   -- the rows left to try after it
-  abbrev left : Under tie.After-less
+  abbrev left : Under tie.After-less-rest
   left = c.before.before
 
-  abbrev N : Under tie.After-next
+  abbrev N : Under tie.After-next-i
   N = left.before
 
   abbrev top : ℕ
-  top = c.cap_of.result
+  top = c.cap_of-cap.result
 
   worth : Worth ((tb (S (W N))).M (i N)) (cap (tb (S (W N))) (i N)) (rows N).rows.best top
-  worth = rw (cap_is (tb (S (W N))) (i N)) c.cap_of.ensures
+  worth = rw (cap_is (tb (S (W N))) (i N)) c.cap_of-cap.ensures
 
   top_le : top ≤ cap (tb (S (W N))) (i N)
   top_le = worth_le worth
@@ -268,60 +269,60 @@ module _ (c : Under tie.After-cap-of) where
   -- what is known of the rows seen once this one has been tried
   abbrev Leads : ℕ → ℕ → ℕ → ℕ → Type 0
   Leads row best q time =
-      Seen (tb (S (W N))) (U (S (W N))) (b (S (W N))) (U (S (W N))) row best q time left.less.result
+      Seen (tb (S (W N))) (U (S (W N))) (b (S (W N))) (U (S (W N))) row best q time left.less-rest.result
 
   module _ {low high time : ℕ} (s : Narrowed (tb (S (W N))) (P N) (b (S (W N))) (i N) top low high time)
       (one : high ≤ low) where
     better : high ≤ top → Leads (i N) (longer (tb (S (W N))) (i N) high) high time
     better =
-        seen_better (rows N).rows.inv.0 N.next.ensures left.less.ensures (inside N) worth s one
+        seen_better (rows N).rows.invariant.0 N.next-i.ensures left.less-rest.ensures (inside N) worth s one
 
     unchanged : top < high → let r = (rows N).rows in Leads r.row r.best r.shortest r.response
-    unchanged = seen_same (rows N).rows.inv.0 N.next.ensures left.less.ensures (inside N) worth s one
+    unchanged = seen_same (rows N).rows.invariant.0 N.next-i.ensures left.less-rest.ensures (inside N) worth s one
 
 -- ---- the level that the others are left in: of all rows but the one in hand, whose place the last one takes
-module _ (h : Under tie.After-leave-out) where
-  abbrev K : Under tie.After-cap-of
+module _ (h : Under tie.After-leave_out-above) where
+  abbrev K : Under tie.After-cap_of-cap
   K = h.before.before.before.before.before
 
-  abbrev R : Under tie.After-next
+  abbrev R : Under tie.After-next-i
   R = N K
 
   abbrev many_above : ℕ
-  many_above = h.leave_out.result
+  many_above = h.leave_out-above.result
 
   abbrev level : List ℕ
-  level = h.leave_out.last.0
+  level = h.leave_out-above.new.level
 
   -- whether it is in the level, and its place there
   abbrev held : Bool
-  held = h.before.before.before.has.result
+  held = h.before.before.before.has-inside.result
 
   abbrev at : ℕ
-  at = h.before.before.place.result
+  at = h.before.before.place-at.result
 
   is_inside : held ≡ marked (set (W R)) (i R)
-  is_inside = h.before.before.before.has.ensures
+  is_inside = h.before.before.before.has-inside.ensures
 
   placed : at ≡ count (marked (set (W R))) (i R)
-  placed = h.before.before.place.ensures
+  placed = h.before.before.place-at.ensures
 
-  left_out : LeftOut held at (all (W R)) (W R).level_of.result level many_above
+  left_out : LeftOut held at (all (W R)) (W R).level_of-all.result level many_above
   left_out =
-      subst (λ l. LeftOut held at l (W R).level_of.result level many_above) (rows R).rows.inv.1
-      h.leave_out.ensures
+      subst (λ l. LeftOut held at l (W R).level_of-all.result level many_above) (rows R).rows.invariant.1
+      h.leave_out-above.ensures
 
   whole : length level ≡ ask_width * most_rows
   whole =
-      left_whole (set (W R)) (W R).level_of.ensures (all_whole (W R)) (i R) (asked R) is_inside placed left_out
+      left_whole (set (W R)) (W R).level_of-all.ensures (all_whole (W R)) (i R) (asked R) is_inside placed left_out
 
-  place_fits : held ≡ true → at < (W R).level_of.result
+  place_fits : held ≡ true → at < (W R).level_of-all.result
   place_fits =
-      place_within (set (W R)) (W R).level_of.ensures (all_whole (W R)) (i R) (asked R) is_inside placed
+      place_within (set (W R)) (W R).level_of-all.ensures (all_whole (W R)) (i R) (asked R) is_inside placed
 
   few_above : many_above ≤ most_rows
   few_above =
-      left_few (set (W R)) (W R).level_of.ensures (all_whole (W R)) (i R) (asked R) is_inside placed left_out
+      left_few (set (W R)) (W R).level_of-all.ensures (all_whole (W R)) (i R) (asked R) is_inside placed left_out
 
   fits : ask_width * many_above ≤ length level
   fits = omega (arith, few_above, whole)
@@ -329,13 +330,13 @@ module _ (h : Under tie.After-leave-out) where
   asking : Asking (tb (S (W R))) (P R) (bound (W R)) (take (ask_width * many_above) level)
   asking =
       let w = W R in
-      asking_held (B (S w)).pre.0 (B (S w)).pre.3 (short_bound w)
+      asking_held (B (S w)).requires.0 (B (S w)).requires.3 (short_bound w)
       (λ j l. kept_without (marked (set w)) (U (S w)) (again (tb (S w)) (bound w) j) (i R) j (kept w j l)) whole
-      (left_others (set w) w.level_of.ensures (all_whole w) (i R) (asked R) is_inside placed left_out)
+      (left_others (set w) w.level_of-all.ensures (all_whole w) (i R) (asked R) is_inside placed left_out)
 
 -- ---- the length that is tried
 module _ (c : Under tie.In-lengths) where
-  abbrev H : Under tie.After-leave-out
+  abbrev H : Under tie.After-leave_out-above
   H = c.before.before.before
 
   -- the rank that is filled, and the row that is tried
@@ -426,142 +427,143 @@ module _ (c : Under tie.At-jobs) where
   more h = let e = next_release in lt_up (L (R (H I))) c.jobs.k (spaced (R (H I))).low (omega arith)
 
 -- ---- one value of a start's iteration
-module _ (c : Under tie.At-loop) where
+module _ (c : Under tie.At-loop-s) where
   abbrev J : Under tie.At-jobs
   J = c.before.before.before
 
   abbrev side : ℕ
-  side = start_side (tb (G (I J))) (P (R (H (I J)))) (b (G (I J))) (z (I J)) upto (q (I J)) J.jobs.k c.loop.s
+  side = start_side (tb (G (I J))) (P (R (H (I J)))) (b (G (I J))) (z (I J)) upto (q (I J)) J.jobs.k c.loop-s.s
 
-  within : c.loop.s + q (I J) ≤ horizon
-  within = omega (arith, trial_within (working (I J)) c.loop.invariant, short (R (H (I J))))
+  within : c.loop-s.s + q (I J) ≤ horizon
+  within = omega (arith, trial_within (working (I J)) c.loop-s.invariant, short (R (H (I J))))
 
   next_within : side + q (I J) ≤ horizon
   next_within =
-      omega (arith, trial_within (working (I J)) (trial_again (working (I J)) c.loop.invariant), short (R (H (I J))))
+      omega (arith, trial_within (working (I J)) (trial_again (working (I J)) c.loop-s.invariant), short (R (H (I J))))
 
   -- what the level gives for it
-  turned : start_of (take (ask_width * many_above (H (I J))) (level (H (I J)))) c.before.base_of.result
-      c.loop.s ≡ side
+  turned : start_of (take (ask_width * many_above (H (I J))) (level (H (I J)))) c.before.base_of-base.result
+      c.loop-s.s ≡ side
   turned =
       let x = I J in
       let h = H x in
       let w = working x in
       let k = J.jobs.k in
-      let e : suc (k - 1) ≡ k = omega (arith, J.jobs.inv.low) in
-      let based : c.before.base_of.result
+      let e : suc (k - 1) ≡ k = omega (arith, J.jobs.invariant.low) in
+      let based : c.before.base_of-base.result
       ≡ active_side (tb (G x)) (P (R h)) (b (G x)) (z x) 1 + (k - 1) * (tb (G x)).C (z x) - q x =
-      omega (arith, c.before.base_of.ensures, first_is (R h)) in
-      start_of_is (asking h) w.positive (b (G x)) (z x) (q x) (k - 1) w.row w.most based c.loop.s
-      (omega (arith, trial_within w c.loop.invariant, w.some, in_busy (R h)))
-      ∙ ap (λ n. start_side (tb (G x)) (P (R h)) (b (G x)) (z x) upto (q x) n c.loop.s) e
+      omega (arith, c.before.base_of-base.ensures, first_is (R h)) in
+      start_of_is (asking h) w.positive (b (G x)) (z x) (q x) (k - 1) w.row w.most based c.loop-s.s
+      (omega (arith, trial_within w c.loop-s.invariant, w.some, in_busy (R h)))
+      ∙ ap (λ n. start_side (tb (G x)) (P (R h)) (b (G x)) (z x) upto (q x) n c.loop-s.s) e
 
 -- ---- where a value repeats
-module _ (c : Under tie.Then3) where
-  abbrev E : Under tie.At-loop
+module _ (c : Under tie.Then-next-s) where
+  abbrev E : Under tie.At-loop-s
   E = c.before.before.before.before
 
-  repeats_there : E.loop.s ≡ side E
-  repeats_there = sym c.if3.true ∙ c.before.start_side.ensures ∙ turned E
+  repeats_there : E.loop-s.s ≡ side E
+  repeats_there = sym c.if-next-s.true ∙ c.before.start_side-next.ensures ∙ turned E
 
 -- ---- where the job loop is left
-tested : (c : Under tie.Joined2) → let x = I (J c.before) in
-    ((c.if2.passes ≡ true) × Passes x c.if2.largest) ⊎ ((c.if2.passes ≡ false) × Fails x)
+tested : (c : Under tie.Joined-due-s) → let x = I (J c.before) in
+    ((c.if-due-s.passes ≡ true) × Passes x c.if-due-s.largest) ⊎ ((c.if-due-s.passes ≡ false) × Fails x)
 tested c =
     let a = c.before in
     let x = I (J a) in
-    ⊎_elim
-    (λ m. inr (m.2, trial_misses (working x) a.loop.invariant m.0.taken))
-    (λ m. inl (
-      m.7,
-      subst (Passes x) (sym (m.6 ∙ m.4.ensures))
-          (trial_passes (working x) a.loop.invariant (sym m.3.taken ∙ m.2.ensures ∙ turned a) m.0.left
-          (over (J a) a.loop.invariant.high (omega (arith, m.5.taken)))),
-    ))
-    c.if2.branch
+    elim c.if-due-s.branch [
+      then-due-s m ↦ inr (m.passes-is, trial_misses (working x) a.loop-s.invariant m.if-due-s.true)
+    | else-due-s+then-next-s+then-period-released m ↦ inl (
+        m.passes-is,
+        subst (Passes x) (sym (m.largest-is ∙ m.larger-largest.ensures))
+            (trial_passes (working x) a.loop-s.invariant (sym m.if-next-s.true ∙ m.start_side-next.ensures ∙ turned a)
+            m.if-due-s.false
+            (over (J a) a.loop-s.invariant.high (omega (arith, m.if-period-released.true)))),
+      )
+    ]
 
 -- ---- where a length has been tried
-outcome : (c : Under tie.Joined5) → Narrower (I (J c.before.before)) c.if5.low c.if5.high c.if5.time
+outcome : (c : Under tie.Joined-passes) → Narrower (I (J c.before.before)) c.if-passes.low c.if-passes.high c.if-passes.time
 outcome c =
     let x = I (J c.before.before) in
-    ⊎_elim
-    (λ m. rw (m.1, m.2, m.3)
-    (⊎_elim (λ t. lowered x t.1) (λ t. not_both c.before.if2.passes t.0 m.0.taken) (tested c.before)))
-    (λ m. rw (m.1, m.2, m.3)
-    (⊎_elim (λ t. not_both c.before.if2.passes m.0.left t.0) (λ t. raised x t.1) (tested c.before)))
-    c.if5.branch
+    elim c.if-passes.branch [
+      then-passes m ↦ rw (m.low-is, m.high-is, m.time-is)
+          (⊎_elim (λ t. lowered x t.1) (λ t. not_both c.before.if-due-s.passes t.0 m.if-passes.true) (tested c.before))
+    | else-passes m ↦ rw (m.low-is, m.high-is, m.time-is)
+          (⊎_elim (λ t. not_both c.before.if-due-s.passes m.if-passes.false t.0) (λ t. raised x t.1) (tested c.before))
+    ]
 
 -- ---- the row in hand put back
-module _ (c : Under tie.After-put-back) where
+module _ (c : Under tie.After-put_back) where
   abbrev D : Under tie.After-lengths
   D = c.before.before
 
-  abbrev Z : Under tie.After-leave-out
+  abbrev Z : Under tie.After-leave_out-above
   Z = D.before.before.before
 
-  back : c.put_back.new.0 ≡ all (W (R Z))
+  back : c.put_back.new.level ≡ all (W (R Z))
   back =
       let w = W (R Z) in
-      back_as_was (set w) w.level_of.ensures (all_whole w) (i (R Z)) (asked (R Z)) (is_inside Z) (placed Z)
+      back_as_was (set w) w.level_of-all.ensures (all_whole w) (i (R Z)) (asked (R Z)) (is_inside Z) (placed Z)
       (left_out Z) c.put_back.ensures
 
 -- ---- where the row in hand is better than those before it
-module _ (c : Under tie.After-longer) where
-  abbrev Q : Under tie.After-put-back
+module _ (c : Under tie.After-longer-best) where
+  abbrev Q : Under tie.After-put_back
   Q = c.before.before.before
 
   -- with the length q that is kept for it
   leads : {q : ℕ} → (D Q).before.lengths.high ≡ q →
-      Leads (K (Z Q)) (i (R (Z Q))) c.longer.result q (D Q).before.lengths.time
+      Leads (K (Z Q)) (i (R (Z Q))) c.longer-best.result q (D Q).before.lengths.time
   leads kept =
       let k = K (Z Q) in
       let l = (D Q).before.lengths in
       let s = S (W (R (Z Q))) in
-      let is = c.longer.ensures ∙ sym (longer_in_lem (B s).args.t1 (B s).args.n (i (R (Z Q))) l.high) in
+      let is = c.longer-best.ensures ∙ sym (longer_in_lem (B s).args.rows (B s).args.n (i (R (Z Q))) l.high) in
       rw (← kept)
       (subst (λ v. Leads k (i (R (Z Q))) v l.high l.time) (sym is)
-      (better k l.inv.0 (D Q).lengths-test.left c.before.if6.true))
+      (better k l.invariant.0 (D Q).lengths-test.false c.before.if-high-cap.true))
 
 -- ---- where all rows have been tried, and one takes the rank
-module _ (c : Under tie.Else8) where
+module _ (c : Under tie.Else-best-eq0) where
   abbrev O : Under tie.At-rows
   O = c.before.before
 
-  abbrev Y : Under tie.After-level-of
+  abbrev Y : Under tie.After-level_of-all
   Y = O.before.before.before.before
 
   abbrev y : ℕ
   y = O.rows.row
 
   found : 1 ≤ O.rows.best
-  found = pos_of_ne-zero c.if8.false
+  found = pos_of_ne-zero c.if-best-eq0.false
 
   takes : Takes (tb (S Y)) (U (S Y)) (b (S Y)) (U (S Y)) y O.rows.shortest
-  takes = seen_all O.rows.inv.0 c.before.rows-test.false found
+  takes = seen_all O.rows.invariant.0 c.before.rows-test.false found
 
   row_inside : y < most_rows
-  row_inside = omega (arith, takes.row, (B (S Y)).pre.0.few)
+  row_inside = omega (arith, takes.row, (B (S Y)).requires.0.few)
 
   own_run : run (B (S Y)).args.asks.now y ≡ (tb (S Y)).C y
-  own_run = (B (S Y)).pre.3.runs y takes.row
+  own_run = (B (S Y)).requires.3.runs y takes.row
 
   enough : run (B (S Y)).args.asks.now y ≤ (S Y).ranks.runs
   enough =
-      omega (arith, own_run, runs_enough (pos (S Y)) (unplaced (S Y)) (S Y).ranks.inv.2 takes.row takes.try)
+      omega (arith, own_run, runs_enough (pos (S Y)) (unplaced (S Y)) (S Y).ranks.invariant.2 takes.row takes.try)
 
-again_of_requires : Under tie.Need-again-of-requires
+again_of_requires : Under tie.Need-again_of-again-requires
 again_of_requires c κs = let p = c.before.requires in ((busy_asks p.0 p.3).0, p.1.low, p.2)
 
 ranks_holds : Under tie.Need-ranks-init
 ranks_holds c =
     let w = c.before in
     let s = w.before.before.before in (
-      going_first _ s.requires.0 w.whole.result w.whole.ensures,
+      going_first _ s.requires.0 w.whole-unplaced.result w.whole-unplaced.ensures,
       refl,
-      c.runs_of.ensures ∙ runs_first w.whole.result s.requires.0 s.requires.3 w.whole.ensures,
+      c.runs_of-runs.ensures ∙ runs_first w.whole-unplaced.result s.requires.0 s.requires.3 w.whole-unplaced.ensures,
     )
 
-level_of_requires : Under tie.Need-level-of-requires
+level_of_requires : Under tie.Need-level_of-all-requires
 level_of_requires c κs =
     let p = c.before in
     let d = p.before.before in
@@ -570,26 +572,26 @@ level_of_requires c κs =
       λ j e. omega (
         arith,
         rows_many s,
-        s.ranks.invariant.0.inside j (and_left (U s j) (marked (repeats s) j) (sym (p.both.ensures j) ∙ e)),
+        s.ranks.invariant.0.inside j (and_left (U s j) (marked (repeats s) j) (sym (p.both-packed.ensures j) ∙ e)),
       ),
       s.ranks.invariant.1,
     )
 
-active_period_requires : Under tie.Need-active-period-requires
+active_period_requires : Under tie.Need-active_period-period-requires
 active_period_requires c κs = let w = c.before.before in ((all_asking w).small, period_there w)
 
-cap_of_requires : Under tie.Need-cap-of-requires
-cap_of_requires c κs = let n = c.before.before in ((B (S (W n))).pre.0.row (i n) (inside n)).region
+cap_of_requires : Under tie.Need-cap_of-cap-requires
+cap_of_requires c κs = let n = c.before.before in ((B (S (W n))).requires.0.row (i n) (inside n)).region
 
-leave_out_requires : Under tie.Need-leave-out-requires
+leave_out_requires : Under tie.Need-leave_out-above-requires
 leave_out_requires c κs =
     let p = c.before in
     let n = N p.before.before.before in
     let w = W n in (
-      w.level_of.ensures.few,
-      ap length (rows n).rows.inv.1 ∙ all_whole w,
-      place_within (set w) w.level_of.ensures (all_whole w) _ (asked n) p.before.has.ensures
-          p.place.ensures,
+      w.level_of-all.ensures.few,
+      ap length (rows n).rows.invariant.1 ∙ all_whole w,
+      place_within (set w) w.level_of-all.ensures (all_whole w) _ (asked n) p.before.has-inside.ensures
+          p.place-at.ensures,
     )
 
 lengths_holds : Under tie.Need-lengths-init
@@ -598,12 +600,12 @@ lengths_holds c = (narrowed_first _ _ _ _ _, search rules)
 jobs_holds : Under tie.Need-jobs-init
 jobs_holds c = trial_first (working c) (first (W (R (H c)))) (first_is (R (H c)))
 
-add_due : Under tie.Need-overflow-add-due
+add_due : Under tie.Need-overflow_add-due
 add_due c =
     let x = I c.before in
-    omega (arith, released c.before, ((B (G x)).pre.0.row (z x) (inside (R (H x)))).D.high)
+    omega (arith, released c.before, ((B (G x)).requires.0.row (z x) (inside (R (H x)))).D.high)
 
-base_of_requires : Under tie.Need-base-of-requires
+base_of_requires : Under tie.Need-base_of-base-requires
 base_of_requires c κs =
     let x = I c.before in
     let h = R (H x) in
@@ -615,35 +617,35 @@ base_of_requires c κs =
       omega (arith, base_within w (c.before.jobs.k - 1) (omega (arith, v.low, v.high)), short h),
     )
 
-start_side_requires : Under tie.Need-start-side-requires
+start_side_requires : Under tie.Need-start_side-next-requires
 start_side_requires c κs =
     let a = c.before.before in
     ((asking (H (I (J a)))).small, omega (arith, within a), omega (arith, turned a, next_within a))
 
-loop_less : Under tie.Need-loop-smaller
+loop_less : Under tie.Need-loop-s-smaller
 loop_less c =
     let a = c.before.before.before.before in
-    omega (arith, a.loop.invariant.climbing.up, c.before.start_side.ensures, turned a, c.if3.false, within a)
+    omega (arith, a.loop-s.invariant.climbing.up, c.before.start_side-next.ensures, turned a, c.if-next-s.false, within a)
 
-loop_again : Under tie.Need-loop-preserved
+loop_again : Under tie.Need-loop-s-preserved
 loop_again c =
     let a = c.before.before.before.before in
-    rw (c.before.start_side.ensures ∙ turned a) (trial_again (working (I (J a))) a.loop.invariant)
+    rw (c.before.start_side-next.ensures ∙ turned a) (trial_again (working (I (J a))) a.loop-s.invariant)
 
 jobs_less : Under tie.Need-jobs-smaller
 jobs_less c =
     let a = E c.before.before in
-    omega (arith, a.loop.inv.high)
+    omega (arith, a.loop-s.invariant.high)
 
 jobs_again : Under tie.Need-jobs-preserved
 jobs_again c =
     let d = c.before.before in
     let a = E d in
-    rw c.before.larger.ensures
-    (trial_next (working (I (J a))) a.loop.inv (repeats_there d) d.before.before.before.if2.false
-    (more (J a) c.if4.false) (search refl))
+    rw c.before.larger-largest.ensures
+    (trial_next (working (I (J a))) a.loop-s.invariant (repeats_there d) d.before.before.before.if-due-s.false
+    (more (J a) c.if-period-released.false) (search refl))
 
-next_length_requires : Under tie.Need-next-length-requires
+next_length_requires : Under tie.Need-next_length-len-requires
 next_length_requires c κs =
     let h = H (I (J c.before.before)) in
     let w = (outcome c).0 in
@@ -653,59 +655,59 @@ lengths_less : Under tie.Need-lengths-smaller
 lengths_less c = (outcome c.before).1
 
 lengths_again : Under tie.Need-lengths-preserved
-lengths_again c = ((outcome c.before).0, c.next_length.ensures)
+lengths_again c = ((outcome c.before).0, c.next_length-len.ensures)
 
-put_back_requires : Under tie.Need-put-back-requires
+put_back_requires : Under tie.Need-put_back-requires
 put_back_requires c κs =
     let h = c.before.before.before.before in
     let s = S (W (R h)) in (
       asked (R h),
-      omega (arith, rows_many s, (B s).pre.0.few),
+      omega (arith, rows_many s, (B s).requires.0.few),
       whole h,
-      λ e. omega (arith, place_fits h e, (W (R h)).level_of.ensures.few),
+      λ e. omega (arith, place_fits h e, (W (R h)).level_of-all.ensures.few),
     )
 
-rows_again : Under tie.Need-rows-preserved
-rows_again c = (seen_one (omega (arith, c.if7.true)) (leads c.before (omega arith)), back (Q c.before))
+rows_again : Under tie.Need-rows-preserved-then-best-eq1
+rows_again c = (seen_one (omega (arith, c.if-best-eq1.true)) (leads c.before (omega arith)), back (Q c.before))
 
-rows_again_2 : Under tie.Need-rows-preserved-2
+rows_again_2 : Under tie.Need-rows-preserved-else-best-eq1
 rows_again_2 c = (leads c.before (omega arith), back (Q c.before))
 
-rows_again_3 : Under tie.Need-rows-preserved-3
+rows_again_3 : Under tie.Need-rows-preserved-else-high-cap
 rows_again_3 c =
     let p = c.before.before in
     let d = D p in
-    (unchanged (K (Z p)) d.before.lengths.inv.0 d.lengths-test.left c.if6.false, back p)
+    (unchanged (K (Z p)) d.before.lengths.invariant.0 d.lengths-test.false c.if-high-cap.false, back p)
 
 -- no length of the row in hand is worth a try
-rows_again_4 : Under tie.Need-rows-preserved-4
+rows_again_4 : Under tie.Need-rows-preserved
 rows_again_4 c =
     let k = c.before in (
-      unchanged k (narrowed_first _ _ _ _ _) (omega (arith, c.if1.false)) (omega (arith, c.if1.false)),
-      (rows (N k)).rows.inv.1,
+      unchanged k (narrowed_first _ _ _ _ _) (omega (arith, c.if-cap-ne0.false)) (omega (arith, c.if-cap-ne0.false)),
+      (rows (N k)).rows.invariant.1,
     )
 
-returns : Under tie.Need-returns
+returns : Under tie.Need-returns-then-best-eq0
 returns c =
     let o = c.before.before in
     let w = o.before.before.before.before in
     let s = S w in
-    going_stops (tb s) (pos s) s.ranks.inv.0 (packs w).before.size.ensures
+    going_stops (tb s) (pos s) s.ranks.invariant.0 (packs w).before.size-rank.ensures
     (count_something (unplaced s) most_rows (searched (turn w)).some
-    (λ j m. omega (arith, s.ranks.inv.0.inside j m, (B s).pre.0.few)))
-    (seen_none o.rows.invariant.0 c.before.rows-test.false c.if8.true)
+    (λ j m. omega (arith, s.ranks.invariant.0.inside j m, (B s).requires.0.few)))
+    (seen_none o.rows.invariant.0 c.before.rows-test.false c.if-best-eq0.true)
 
 ranks_again : Under tie.Need-ranks-preserved
 ranks_again c =
     let d = c.before.before.before in
     let w = (O d).rows.invariant.0 in
     let s = S (Y d) in (
-      rw (packs (Y d)).before.size.ensures
-          (going_more (tb s) (pos s) s.ranks.inv.0 (row_inside d) (takes d) (w.timed (found d)) c.less2.ensures
-          (w.found (found d)).3 c.before.larger2.ensures),
+      rw (packs (Y d)).before.size-rank.ensures
+          (going_more (tb s) (pos s) s.ranks.invariant.0 (row_inside d) (takes d) (w.timed (found d)) c.less-unplaced.ensures
+          (w.found (found d)).3 c.before.larger-blocking.ensures),
       ap length (O d).rows.invariant.1 ∙ all_whole (Y d),
       ap (λ x. s.ranks.runs - x) (own_run d)
-          ∙ runs_more (pos s) (unplaced s) s.ranks.inv.2 (takes d).row (takes d).try c.less2.ensures,
+          ∙ runs_more (pos s) (unplaced s) s.ranks.invariant.2 (takes d).row (takes d).try c.less-unplaced.ensures,
     )
 
 pub fill_spec : {M : Type 1} → statement M
@@ -715,16 +717,16 @@ fill_spec = tie.close (tie.spec invariant_loop decreases_loop invariant_jobs dec
     (λ c κs. search rules) (λ c κs. search rules) (λ c. sym c.before.before.before.before.ranks.invariant.1)
     level_of_requires
     (λ c. let w = period_there c.before in omega (arith, w.under, w.within))
-    (λ c. omega (arith, c.before.level_of.ensures.few))
+    (λ c. omega (arith, c.before.level_of-all.ensures.few))
     (λ c. all_fits c.before) (λ c. sym (length-take-le _ _ (all_fits c.before.before)))
     active_period_requires (λ c. (seen_first _ _ _ _, refl))
     (λ c κs. pos_of_ne-zero c.rows-test.true)
-    (λ c κs. (c.next.ensures.inside, c.next.ensures.first.holds))
-    (λ c. search rules) (λ c. omega (arith, c.before.next.ensures.inside)) (λ c. c.before.next.ensures.inside)
+    (λ c κs. (c.next-i.ensures.inside, c.next-i.ensures.first.holds))
+    (λ c. search rules) (λ c. omega (arith, c.before.next-i.ensures.inside)) (λ c. c.before.next-i.ensures.inside)
     cap_of_requires
-    (λ c κs. (N c.before).next.ensures.inside) (λ c κs. (N c.before.before).next.ensures.inside)
+    (λ c κs. (N c.before).next-i.ensures.inside) (λ c κs. (N c.before.before).next-i.ensures.inside)
     (λ c. search rules)
-    (λ c. let n = N c.before.before.before.before in sym (ap length (rows n).rows.inv.1 ∙ all_whole (W n)))
+    (λ c. let n = N c.before.before.before.before in sym (ap length (rows n).rows.invariant.1 ∙ all_whole (W n)))
     leave_out_requires (λ c. omega (arith, top_run (K c.before), (runs (R c.before)).high)) lengths_holds
     (λ c. omega (arith, length_first (working c), first_is (R (H c)))) jobs_holds (λ c. c.jobs.invariant.low)
     (λ c. omega (arith, released c)) add_due (λ c. c.before.jobs.invariant.low) base_of_requires
@@ -732,24 +734,24 @@ fill_spec = tie.close (tie.spec invariant_loop decreases_loop invariant_jobs dec
     (λ c. omega (arith, within c)) (λ c. omega (arith, few_above (H (I (J c.before)))))
     (λ c. fits (H (I (J c.before)))) (λ c. sym (length-take-le _ _ (fits (H (I (J c.before.before))))))
     start_side_requires loop_less loop_again (λ c. omega (arith, within (E c)))
-    (λ c. omega (arith, trial_after (working (I (J (E c)))) (E c).loop.invariant (repeats_there c))) (λ c κs. search rules)
+    (λ c. omega (arith, trial_after (working (I (J (E c)))) (E c).loop-s.invariant (repeats_there c))) (λ c κs. search rules)
     (λ c. let a = E c.before in omega (arith, released (J a), (spaced (R (H (I (J a))))).high))
     (λ c. omega (arith, job_few (J (E c.before.before))))
     (λ c. let a = E c.before.before in omega (arith, within a, (runs (R (H (I (J a))))).high)) jobs_less jobs_again
     (λ c. let x = I (J c.before.before) in omega (arith, (working x).most, (runs (R (H x))).high))
     next_length_requires lengths_less lengths_again
     (λ c. sym (whole c.before.before.before.before)) (λ c. search rules) put_back_requires
-    (λ c κs. search rules) (λ c. pos_of_ne-zero (R (Z (Q c.before))).before.rows-test.taken) rows_again
-    (λ c. (left (K (Z (Q c.before)))).less.ensures.smaller) rows_again_2
-    (λ c. (left (K (Z c.before.before))).less.ensures.smaller) rows_again_3
-    (λ c. (left c.before).less.ensures.smaller) rows_again_4
+    (λ c κs. search rules) (λ c. pos_of_ne-zero (R (Z (Q c.before))).before.rows-test.true) rows_again
+    (λ c. (left (K (Z (Q c.before)))).less-rest.ensures.smaller) rows_again_2
+    (λ c. (left (K (Z c.before.before))).less-rest.ensures.smaller) rows_again_3
+    (λ c. (left c.before).less-rest.ensures.smaller) rows_again_4
     returns (λ c. omega (arith, row_inside c)) (λ c. omega (arith, row_inside c)) (λ c. omega (arith, row_inside c))
     (λ c. omega (arith, row_inside c)) (λ c. omega (arith, row_inside c)) (λ c. omega (arith, row_inside c))
     (λ c. omega (arith, row_inside c)) (λ c. omega (arith, row_inside c)) (λ c. omega (arith, row_inside c))
     (λ c. omega (arith, row_inside c)) (λ c. omega (arith, row_inside c))
-    (λ c. let d = c.before in omega (arith, (takes d).row, (B (S (Y d))).pre.3.long))
+    (λ c. let d = c.before in omega (arith, (takes d).row, (B (S (Y d))).requires.3.long))
     (λ c. let d = c.before in
-    omega (arith, own_run d, ((B (S (Y d))).pre.0.row (y d) (takes d).row).C.high)) (λ c. enough c.before)
+    omega (arith, own_run d, ((B (S (Y d))).requires.0.row (y d) (takes d).row).C.high)) (λ c. enough c.before)
     (λ c. found c.before) (λ c κs. search rules)
-    (λ c κs. let d = c.before.before in (row_inside d, (takes d).try)) (λ c. c.less2.ensures.smaller) ranks_again
+    (λ c κs. let d = c.before.before in (row_inside d, (takes d).try)) (λ c. c.less-unplaced.ensures.smaller) ranks_again
     (λ c. let s = c.before in going_ends (tb s) (pos s) s.ranks.invariant.0 c.ranks-test.false))

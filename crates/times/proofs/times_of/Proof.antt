@@ -24,7 +24,7 @@ use Rattle.times.proofs.times_of.Statement.{statement}
 use Rattle.times.proofs.times_of.Tie as tie
 
 -- the rows are made
-module _ (r : tie.After-rows-of) where
+module _ (r : tie.After-rows_of-rows) where
   abbrev S : tie.Start
   S = r.before.before.before.before
 
@@ -32,76 +32,76 @@ module _ (r : tie.After-rows-of) where
   xs = S.args.table.now
 
   abbrev tb : Table
-  tb = table_in r.rows_of_lem.result (table_of xs).n
+  tb = table_in r.rows_of-rows.result (table_of xs).n
 
   same : tb ≡ table_of xs
-  same = r.rows_of_lem.ensures
+  same = r.rows_of-rows.ensures
 
   sound : Sound tb
-  sound = rows_sound S.pre same
+  sound = rows_sound S.requires same
 
 -- the plan is well formed
-module _ (c : tie.After-enum-told) where
-  abbrev R : tie.After-rows-of
+module _ (c : tie.In_default) where
+  abbrev R : tie.After-rows_of-rows
   R = c.before.before.before
 
   form : Clear (plan_form (tb R) (S R).args.plan.now)
-  form = form_clear (tb R) (S R).args.plan.now c.before.before.check_plan.ensures c.enum_told.given.1
+  form = form_clear (tb R) (S R).args.plan.now c.before.before.check_plan-form.ensures c.enum_told-1.given.1
 
 -- there is room for the times
-roomy : (c : tie.Else1) → let r = R c.before in Clear (room (times_width * (tb r).n) (S r).args.out.now)
-roomy c = let r = R c.before in room_clear (times_width * (tb r).n) (S r).args.out.now c.if1.false
+roomy : (c : tie.Else-out-n) → let r = R c.before in Clear (room (times_width * (tb r).n) (S r).args.out.now)
+roomy c = let r = R c.before in room_clear (times_width * (tb r).n) (S r).args.out.now c.if-out-n.false
 
 -- what the rows ask with
-module _ (a : tie.After-asks-of) where
-  abbrev D : tie.After-enum-told
+module _ (a : tie.After-asks_of-all) where
+  abbrev D : tie.In_default
   D = a.before.before
 
-  asks : Asks (tb (R D)) (take (ask_width * (table_of (xs (R D))).n) a.asks_of.result)
+  asks : Asks (tb (R D)) (take (ask_width * (table_of (xs (R D))).n) a.asks_of-all.result)
   asks =
-      subst (λ t. Asks t (take (ask_width * t.n) a.asks_of.result)) (sym (same (R D))) a.asks_of.ensures.front
+      subst (λ t. Asks t (take (ask_width * t.n) a.asks_of-all.result)) (sym (same (R D))) a.asks_of-all.ensures.front
 
-  fits : ask_width * (table_of (xs (R D))).n ≤ length a.asks_of.result
-  fits = omega (arith, a.asks_of.ensures.whole, (S (R D)).pre.sound.few)
+  fits : ask_width * (table_of (xs (R D))).n ≤ length a.asks_of-all.result
+  fits = omega (arith, a.asks_of-all.ensures.whole, (S (R D)).requires.sound.few)
 
 -- whether there is a busy period
-found : (c : tie.After-busy-period) → BusyFound (tb (R (D c.before.before))) c.busy_period.result
+found : (c : tie.After-busy_period-busy) → BusyFound (tb (R (D c.before.before))) c.busy_period-busy.result
 found c =
     let a = c.before.before in
-    busy_found (sound (R (D a))) (asks a) c.busy_period.result c.busy_period.ensures
+    busy_found (sound (R (D a))) (asks a) c.busy_period-busy.result c.busy_period-busy.ensures
 
 -- and there is one
-module _ (c : tie.After-enum-told3) where
-  abbrev A : tie.After-asks-of
+module _ (c : tie.In_default-busy) where
+  abbrev A : tie.After-asks_of-all
   A = c.before.before.before.before
 
-  abbrev Q : tie.After-rows-of
+  abbrev Q : tie.After-rows_of-rows
   Q = R (D A)
 
   asked : Planned (tb Q) (S Q).args.plan.now
-  asked = planned (sound Q) (form (D A)) (busy_within (tb Q) (found c.before.before) c.enum-told3.given.1)
+  asked = planned (sound Q) (form (D A)) (busy_within (tb Q) (found c.before.before) c.enum_told-in_default-busy-1.given.1)
 
 -- an answer for the rows is one for the table
-over : (r : tie.After-rows-of) {answer : Result} → let s = S r in
+over : (r : tie.After-rows_of-rows) {answer : Result} → let s = S r in
     TimesRest s.args.plan.now s.args.out.now (tb r) answer →
     TimesRest s.args.plan.now s.args.out.now (table_of (xs r)) answer
 over r {answer} = subst (λ t. TimesRest (S r).args.plan.now (S r).args.out.now t answer) (same r)
 
-returns : tie.Need-returns
+returns : tie.Need-returns-in-AtFault
 returns c =
     let k = c.before.before.before in
-    over k.before (form_refuses _ _ k.check_plan.ensures _ _ c.before.form.given.1)
+    over k.before (form_refuses _ _ k.check_plan-form.ensures _ _ c.before.form-1.given.1)
 
-returns_2 : tie.Need-returns-2
-returns_2 c = over (R c.before) (form c.before past room_refuses _ _ c.if1.true)
+returns_2 : tie.Need-returns-then-out-n
+returns_2 c = over (R c.before) (form c.before past room_refuses _ _ c.if-out-n.true)
 
-returns_3 : tie.Need-returns-3
+returns_3 : tie.Need-returns-in-Beyond
 returns_3 c =
     let b = c.before.before in
     let a = b.before.before in
-    over (R (D a)) (form (D a) past roomy a.before past busy_refuses _ (found b) _ c.enum-told2.given.1)
+    over (R (D a)) (form (D a) past roomy a.before past busy_refuses _ (found b) _ c.enum_told-in-Beyond-1.given.1)
 
-returns_4 : tie.Need-returns-4
+returns_4 : tie.Need-returns
 returns_4 c =
     let w = c.before.before in
     let r = w.before.before in
@@ -112,7 +112,7 @@ returns_4 c =
 pub times_of_spec : {M : Type 1} → statement M
 times_of_spec = tie.close (tie.spec (λ c κs. rows_ask c.before.before.before.requires) (λ c κs. sound c)
     (λ c. search rules) returns (λ c. search rules) (λ c. search rules) returns_2 (λ c κs. search rules)
-    (λ c. omega (arith, (S (R (D c))).pre.sound.few)) (λ c. fits c) (λ c. sym (length-take-le _ _ (fits c.before)))
+    (λ c. omega (arith, (S (R (D c))).requires.sound.few)) (λ c. fits c) (λ c. sym (length-take-le _ _ (fits c.before)))
     (λ c κs. busy_asks (sound (R (D c.before))) (asks c.before)) (λ c. search rules) returns_3 (λ c. search rules)
     (λ c κs. (asked c, asks (A c))) (λ c κs. search rules) (λ c. search rules) (λ c. search rules) (λ c. search rules)
     returns_4)

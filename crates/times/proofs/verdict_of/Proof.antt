@@ -24,7 +24,7 @@ use Rattle.times.proofs.verdict_of.Statement.{statement}
 use Rattle.times.proofs.verdict_of.Tie as tie
 
 -- the rows are made
-module _ (r : tie.After-rows-of) where
+module _ (r : tie.After-rows_of-rows) where
   abbrev S : tie.Start
   S = r.before.before.before
 
@@ -32,84 +32,84 @@ module _ (r : tie.After-rows-of) where
   xs = S.args.table.now
 
   abbrev tb : Table
-  tb = table_in r.rows_of_lem.result (table_of xs).n
+  tb = table_in r.rows_of-rows.result (table_of xs).n
 
   same : tb ≡ table_of xs
-  same = r.rows_of_lem.ensures
+  same = r.rows_of-rows.ensures
 
   sound : Sound tb
-  sound = rows_sound S.pre same
+  sound = rows_sound S.requires same
 
 -- the plan is well formed
-module _ (c : tie.After-enum-told) where
-  abbrev R : tie.After-rows-of
+module _ (c : tie.In_default) where
+  abbrev R : tie.After-rows_of-rows
   R = c.before.before.before
 
   form : Clear (plan_form (tb R) (S R).args.plan.now)
-  form = form_clear (tb R) (S R).args.plan.now c.before.before.check_plan.ensures c.enum_told.given.1
+  form = form_clear (tb R) (S R).args.plan.now c.before.before.check_plan-form.ensures c.enum_told-1.given.1
 
 -- what the rows ask with
-module _ (a : tie.After-asks-of) where
-  abbrev D : tie.After-enum-told
+module _ (a : tie.After-asks_of-all) where
+  abbrev D : tie.In_default
   D = a.before
 
-  asks : Asks (tb (R D)) (take (ask_width * (table_of (xs (R D))).n) a.asks_of.result)
+  asks : Asks (tb (R D)) (take (ask_width * (table_of (xs (R D))).n) a.asks_of-all.result)
   asks =
-      subst (λ t. Asks t (take (ask_width * t.n) a.asks_of.result)) (sym (same (R D))) a.asks_of.ensures.front
+      subst (λ t. Asks t (take (ask_width * t.n) a.asks_of-all.result)) (sym (same (R D))) a.asks_of-all.ensures.front
 
-  fits : ask_width * (table_of (xs (R D))).n ≤ length a.asks_of.result
-  fits = omega (arith, a.asks_of.ensures.whole, (S (R D)).pre.sound.few)
+  fits : ask_width * (table_of (xs (R D))).n ≤ length a.asks_of-all.result
+  fits = omega (arith, a.asks_of-all.ensures.whole, (S (R D)).requires.sound.few)
 
 -- whether there is a busy period
-found : (c : tie.After-busy-period) → BusyFound (tb (R (D c.before.before))) c.busy_period.result
+found : (c : tie.After-busy_period-busy) → BusyFound (tb (R (D c.before.before))) c.busy_period-busy.result
 found c =
     let a = c.before.before in
-    busy_found (sound (R (D a))) (asks a) c.busy_period.result c.busy_period.ensures
+    busy_found (sound (R (D a))) (asks a) c.busy_period-busy.result c.busy_period-busy.ensures
 
 -- and there is one
-module _ (c : tie.After-enum-told3) where
-  abbrev A : tie.After-asks-of
+module _ (c : tie.In_default-busy) where
+  abbrev A : tie.After-asks_of-all
   A = c.before.before.before.before
 
-  abbrev Q : tie.After-rows-of
+  abbrev Q : tie.After-rows_of-rows
   Q = R (D A)
 
   asked : Planned (tb Q) (S Q).args.plan.now
-  asked = planned (sound Q) (form (D A)) (busy_within (tb Q) (found c.before.before) c.enum-told3.given.1)
+  asked = planned (sound Q) (form (D A)) (busy_within (tb Q) (found c.before.before) c.enum_told-in_default-busy-1.given.1)
 
 -- an answer for the rows is one for the table
-over : (r : tie.After-rows-of) {answer : Result} → VerdictRest (S r).args.plan.now (tb r) answer →
+over : (r : tie.After-rows_of-rows) {answer : Result} → VerdictRest (S r).args.plan.now (tb r) answer →
     VerdictRest (S r).args.plan.now (table_of (xs r)) answer
 over r {answer} = subst (λ t. VerdictRest (S r).args.plan.now t answer) (same r)
 
-returns : tie.Need-returns
+returns : tie.Need-returns-in-AtFault
 returns c =
     let k = c.before.before.before in
-    over k.before (form_refuses _ _ k.check_plan.ensures _ _ c.before.form.given.1)
+    over k.before (form_refuses _ _ k.check_plan-form.ensures _ _ c.before.form-1.given.1)
 
-returns_2 : tie.Need-returns-2
+returns_2 : tie.Need-returns-in-Beyond
 returns_2 c =
     let b = c.before.before in
     let d = D b.before.before in
-    over (R d) (form d past busy_refuses _ (found b) _ c.enum-told2.given.1)
+    over (R d) (form d past busy_refuses _ (found b) _ c.enum_told-in-Beyond-1.given.1)
 
-returns_3 : tie.Need-returns-3
+returns_3 : tie.Need-returns-then-in_time
 returns_3 c =
     let t = c.before in
     let b = t.before.before in
     over (Q b) (form (D (A b)) past busy_clear (asked b).busy past verdict_yes t.before.responses.ensures
-    (says_yes t.in_time.result c.if1.true t.in_time.ensures))
+    (says_yes t.in_time.result c.if-in_time.true t.in_time.ensures))
 
-returns_4 : tie.Need-returns-4
+returns_4 : tie.Need-returns
 returns_4 c =
     let t = c.before in
     let b = t.before.before in
     over (Q b) (form (D (A b)) past busy_clear (asked b).busy past verdict_no t.before.responses.ensures
-    (says_no t.in_time.result c.if1.false t.in_time.ensures))
+    (says_no t.in_time.result c.if-in_time.false t.in_time.ensures))
 
 pub verdict_of_spec : {M : Type 1} → statement M
 verdict_of_spec = tie.close (tie.spec (λ c κs. rows_ask c.before.before.requires) (λ c κs. sound c) (λ c. search rules)
-    returns (λ c. search rules) (λ c κs. search rules) (λ c. omega (arith, (S (R (D c))).pre.sound.few)) (λ c. fits c)
+    returns (λ c. search rules) (λ c κs. search rules) (λ c. omega (arith, (S (R (D c))).requires.sound.few)) (λ c. fits c)
     (λ c. sym (length-take-le _ _ (fits c.before)))
     (λ c κs. busy_asks (sound (R (D c.before))) (asks c.before)) (λ c. search rules) returns_2 (λ c. search rules)
     (λ c κs. (asked c, asks (A c))) (λ c κs. search rules) returns_3 returns_4)
