@@ -1,8 +1,6 @@
 -- `in_time` meets its contract: every row passed is in time.
 use Prim.Native.Nat.{ℕ, ◌≤◌, ◌<◌, ◌-◌}
-use native.Mathlib.Omega.{arith}
 use lib.ListN.{get_or}
-use borrow.Author.Count.{below_none, below_more}
 use Rattle.tables.specs.inside.Rows.{table_in}
 use Rattle.times.proofs.in_time.Given as goal
 
