@@ -1,5 +1,6 @@
 // The operation plan: the checks in their order, the ranks filled, and the planned table written.
 #![tactic(auto)]
+
 ghost use Rattle.tables.specs.Table.{table_of};
 ghost use Rattle.tables.specs.inside.Rows.{SoundSlice};
 ghost use Rattle.tables.specs.Answer.{result_of};
