@@ -1,5 +1,6 @@
 // The operation play: the kernel's rule, answered from decision to decision.
 #![tactic(auto)]
+
 ghost use Rattle.std.specs.Prelude.{◌≤◌, length};
 ghost use Rattle.tables.specs.Table.{table_of};
 ghost use Rattle.tables.specs.Plan.{plan_of};

@@ -1,15 +1,12 @@
 -- `first_jobs` meets its contract: the rows before row i have their first jobs, and from row i on there is 0.
-use Prim.Native.Nat.{ℕ, ◌≤◌, ◌<◌, ◌-◌}
-use mathlib.Core.Path.{◌≡◌, refl, ◌∙◌}
+use Prim.Native.Nat.{ℕ}
+use mathlib.Core.Path.{refl, ◌∙◌}
 use native.Mathlib.Omega.{arith}
-use lib.ListN.{length, get_or, length-set}
+use lib.ListN.{length-set}
 use Rattle.counting.proofs.Cases.{by_eq}
 use lib.Seq.{get_or-set_same, get_or-set_other}
-use Rattle.tables.specs.Jobs.{jobs_of}
 use Rattle.tables.proofs.Rows.{holds_none}
 use Rattle.tables.specs.Table.{most_rows}
-use Rattle.decision.specs.inside.Decision.{Following}
-use borrow.Author.Rules.{rules}
 use Rattle.decision.proofs.first_jobs.Goals as goal
 
 pub loop-i-preserved : goal.loop-i-preserved

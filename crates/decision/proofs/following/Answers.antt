@@ -1,10 +1,6 @@
 -- `following` meets its contract: no job from `from` to before job k is of row i.
-use Prim.Native.Nat.{ℕ, ◌≤◌, ◌<◌, ◌-◌}
-use mathlib.Core.Path.{◌≡◌}
 use native.Mathlib.Omega.{arith}
 use Rattle.counting.proofs.Cases.{by_eq}
-use Rattle.tables.specs.Jobs.{jobs_of}
-use borrow.Author.Rules.{rules}
 use Rattle.decision.proofs.following.Goals as goal
 
 pub loop-k-preserved : goal.loop-k-preserved

@@ -1,9 +1,6 @@
 -- `released` meets its contract: the jobs from `from` to before job k are released.
-use Prim.Native.Nat.{ℕ, ◌≤◌, ◌<◌, ◌-◌}
 use native.Mathlib.Omega.{arith}
 use Rattle.counting.proofs.Cases.{by_eq}
-use Rattle.tables.specs.Jobs.{jobs_of}
-use borrow.Author.Rules.{rules}
 use Rattle.decision.proofs.released.Goals as goal
 
 pub loop-k-preserved : goal.loop-k-preserved

@@ -2,7 +2,6 @@
 use Prim.Native.Nat.{◌*◌}
 use native.Mathlib.Omega.{arith}
 use Rattle.tables.specs.Jobs.{job_width}
-use borrow.Author.Rules.{rules}
 use Rattle.joblist.proofs.keeps_alone.Goals as goal
 
 pub overflow_cast-i : goal.overflow_cast-i
