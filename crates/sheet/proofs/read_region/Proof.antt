@@ -11,25 +11,25 @@ use Rattle.sheet.proofs.read_region.Statement.{statement}
 use Rattle.sheet.proofs.read_region.Tie as tie
 
 -- the start was there
-begin : (c : tie.After-known-told2) → let a = c.before.before.before.before.before.args in
-    let g = c.before.begin2.given.0 in
+begin : (c : tie.In-Past) → let a = c.before.before.before.before.before.args in
+    let g = c.before.begin-in-Past-1.given.0 in
     Passed (spaced 0) a.text.now a.from.at (g.0, g.1.0) g.1.1.0.at
-begin c = rw c.before.begin2.given.1 at c.before.before.before.read_number.ensures
+begin c = rw c.before.begin-in-Past-1.given.1 at c.before.before.before.read_number-begin.ensures
 
-returns : tie.Need-returns
+returns : tie.Need-returns-in-Stuck
 returns c =
-    let first = rw c.before.begin.given.1 at c.before.before.before.read_number.ensures in
+    let first = rw c.before.begin-1.given.1 at c.before.before.before.read_number-begin.ensures in
     alike_stuck region_alike (stuck_first (spaced 0) (λ _. ended) first (λ _ _. some_length))
 
-returns_2 : tie.Need-returns-2
+returns_2 : tie.Need-returns-in-Stuck-region
 returns_2 c =
-    let second = rw c.before.region.given.1 at c.before.before.before.read-number2.ensures in
+    let second = rw c.before.region-1.given.1 at c.before.before.before.read_number-region.ensures in
     alike_stuck region_alike
     (stuck_second (spaced 0) (λ _. ended) (code_spaced 0) (begin c.before.before.before.before) second)
 
-returns_3 : tie.Need-returns-3
+returns_3 : tie.Need-returns-in-Past-region
 returns_3 c =
-    let second = rw c.before.region2.given.1 at c.before.before.before.read-number2.ensures in
+    let second = rw c.before.region-in-Past-region-1.given.1 at c.before.before.before.read_number-region.ensures in
     let whole = passed_both (spaced 0) (λ _. ended) (begin c.before.before.before.before) second in (
       refl,
       refl,

@@ -19,26 +19,26 @@ use Rattle.sheet.proofs.sheet.Statement.{statement}
 use Rattle.sheet.proofs.sheet.Tie as tie
 
 -- the text, the table that it was read into, and what the answer says of them
-module _ (m : tie.After-read-sheet) where
+module _ (m : tie.After-read_sheet-got) where
   abbrev text : List ℕ
   text = m.before.before.before.before.args.text.now
 
   abbrev table : List ℕ
-  table = m.read_sheet.last.1.0
+  table = m.read_sheet-got.last.1.0
 
-  told : {r : SheetRead} → m.read_sheet.result ≡ r → ReadsSheet text (replicate (row_width * most_rows) 0) table r
-  told e = subst (ReadsSheet text (replicate (row_width * most_rows) 0) table) e m.read_sheet.ensures
+  told : {r : SheetRead} → m.read_sheet-got.result ≡ r → ReadsSheet text (replicate (row_width * most_rows) 0) table r
+  told e = subst (ReadsSheet text (replicate (row_width * most_rows) 0) table) e m.read_sheet-got.ensures
 
 -- the whole text was read: the table's front is that of the sheet
-module _ (c : tie.After-known-told2) where
-  abbrev m : tie.After-read-sheet
+module _ (c : tie.In-Whole) where
+  abbrev m : tie.After-read_sheet-got
   m = c.before.before.before.before
 
   abbrev n : ℕ
-  n = c.before.got2.given.0.0
+  n = c.before.got-in-Whole-1.given.0.0
 
   read : ReadsSheet (text m) (replicate (row_width * most_rows) 0) (table m) (whole.Whole n)
-  read = told m c.before.got2.given.1
+  read = told m c.before.got-in-Whole-1.given.1
 
   front : take (row_width * n) (table m) ≡ ticks_of read.0 read.1
   front = ticks_front read.0 read.1 n (table m) (drop (row_width * n) (replicate (row_width * most_rows) 0))
@@ -47,24 +47,24 @@ module _ (c : tie.After-known-told2) where
   few : row_width * n ≤ row_width * most_rows
   few = omega (arith, read.3, read.2.formed.few)
 
-stuck : (c : tie.After-known-told) →
-    (sheet_form (text c.before.before.before.before)).hits c.before.got.given.0.0
-stuck c = told c.before.before.before.before c.before.got.given.1
+stuck : (c : tie.In-Stuck) →
+    (sheet_form (text c.before.before.before.before)).hits c.before.got-1.given.0.0
+stuck c = told c.before.before.before.before c.before.got-1.given.1
 
-cast_t10 : tie.Need-overflow-cast-t10
-cast_t10 c = omega (arith, place_bound _ c.before.got.given.0.0 (stuck c))
+cast_t10 : tie.Need-overflow_cast-result
+cast_t10 c = omega (arith, place_bound _ c.before.got-1.given.0.0 (stuck c))
 
-slice_aggregate_give : tie.Need-slice-aggregate-give
+slice_aggregate_give : tie.Need-slice_bounds-give-end
 slice_aggregate_give c =
     let b = c.before in
-    sym (length-take-le (row_width * n b) (table (m b)) (omega (arith, few b, (m b).read_sheet.auto.1.0)))
+    sym (length-take-le (row_width * n b) (table (m b)) (omega (arith, few b, (m b).read_sheet-got.auto.1.0)))
 
 give_requires : tie.Need-give-requires
 give_requires c κs =
     let b = c.before.before in
     rw (front b) (ticks_rows (read b).0 (read b).1 (read b).2.formed)
 
-returns_2 : tie.Need-returns-2
+returns_2 : tie.Need-returns-in-Whole
 returns_2 c =
     let b = c.before.before.before.before.before in
     let r = read b in
@@ -73,6 +73,6 @@ returns_2 c =
 pub sheet_spec : {M : Type 1} → statement M
 sheet_spec =
     tie.close (tie.spec (λ c. search rules) (λ c κs. search rules) (λ c. search rules) cast_t10 (λ c. search rules)
-    (λ c. omega (arith, few c)) (λ c. omega (arith, few c, (m c).read_sheet.auto.1.0)) slice_aggregate_give
+    (λ c. omega (arith, few c)) (λ c. omega (arith, few c, (m c).read_sheet-got.auto.1.0)) slice_aggregate_give
     give_requires (λ c. inl (record { number = refl; place = stuck c; value = refl; unwritten = refl }))
     (λ c. search rules) returns_2)
