@@ -1,8 +1,8 @@
 -- `put_front` meets its contract. The loop's invariant: the numbers passed stand at the front.
 use native.Mathlib.Numerals.{add-one}
 use lib.ListN.{length-set, length}
-use lib.Seq.{paste, paste-zero, paste-suc, take-length}
-use Prim.Native.Nat.{◌≤◌, ◌+◌, ◌-◌}
+use lib.Seq.{paste-zero, paste-suc, take-length}
+use Prim.Native.Nat.{◌+◌}
 use mathlib.Core.Path.{◌≡◌, refl, ◌∙◌}
 use native.Mathlib.Omega.{arith}
 use borrow.Author.Rules.{rules}
