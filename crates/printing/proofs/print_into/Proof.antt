@@ -17,7 +17,7 @@ use Rattle.printing.proofs.print_into.Statement.{statement}
 use Rattle.printing.proofs.print_into.Tie as tie
 
 -- the planned table and the buffer
-module _ (c : tie.After-say) where
+module _ (c : tie.After-say-said) where
   abbrev planned : List ℕ
   planned = c.before.before.before.before.args.planned.now
 
@@ -25,19 +25,19 @@ module _ (c : tie.After-say) where
   buf = c.before.before.before.before.args.buf.now
 
 -- where fit's number is 0, the numbers are rows and there is room
-fits : (c : tie.Then1) → let a = c.before.before in
+fits : (c : tie.Then-said-eq0) → let a = c.before.before in
     Clear (planned_shape (planned a)) × (length (plan_text (planned a)) ≤ length (buf a))
-    × (place_of a.before.fit.result ≡ 0) × (value_of a.before.fit.result ≡ length (plan_text (planned a)))
+    × (place_of a.before.fit-answer.result ≡ 0) × (value_of a.before.fit-answer.result ≡ length (plan_text (planned a)))
 fits c =
     let a = c.before.before in
-    fit_given (planned a) (buf a) a.before.fit.ensures (sym a.say.ensures.0 ∙ c.if1.true)
+    fit_given (planned a) (buf a) a.before.fit-answer.ensures (sym a.say-said.ensures.0 ∙ c.if-said-eq0.true)
 
-put_plan_requires : tie.Need-put-plan-requires
+put_plan_requires : tie.Need-put_plan-requires
 put_plan_requires c κs =
     let f = fits c.before in
     let r = rows_of_shape planned_width (planned c.before.before.before) f.0 in (omega arith, omega arith, f.1)
 
-returns : tie.Need-returns
+returns : tie.Need-returns-then-said-eq0
 returns c =
     let t = c.before.before.before.before in
     let a = t.before.before in
@@ -49,17 +49,17 @@ returns c =
       inr (
         λ place h. omega (arith, h.1, f.1),
         record {
-          number = sym a.say.ensures.0 ∙ t.if1.true;
+          number = sym a.say-said.ensures.0 ∙ t.if-said-eq0.true;
           place = f.2;
           given = record { many = f.3; whole = rw e at c.before.before.put_plan.ensures.whole };
         },
       ),
     )
 
-returns_2 : tie.Need-returns-2
+returns_2 : tie.Need-returns-else-said-eq0
 returns_2 c =
     let a = c.before.before in
-    print_refused (planned a) (buf a) a.before.fit.ensures (λ z. c.if1.false (a.say.ensures.0 ∙ z))
+    print_refused (planned a) (buf a) a.before.fit-answer.ensures (λ z. c.if-said-eq0.false (a.say-said.ensures.0 ∙ z))
 
 pub print_into_spec : {M : Type 1} → statement M
 print_into_spec =
