@@ -1,11 +1,8 @@
 -- `plan_bytes` meets its contract. The loop's invariant: the bytes of the first line and of the rows passed.
-use lib.ListN.{length-append, length}
-use Rattle.decimal.proofs.Decimal.{few}
+use lib.ListN.{length}
 use Rattle.printing.specs.Printed.{plan_line, row_lines}
-use Rattle.printing.proofs.Printed.{length_plan_line, rows_none, rows_more, length_text}
 use Prim.Native.Nat.{◌≤◌, ◌+◌, ◌*◌, ◌-◌}
 use mathlib.Core.Path.{◌≡◌}
-use native.Mathlib.Omega.{arith}
 use Rattle.printing.proofs.plan_bytes.Given as goal
 
 abbrev pub invariant-loop-i : goal.invariant-loop-i
