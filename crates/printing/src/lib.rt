@@ -1,5 +1,6 @@
 // The printed plan: how many bytes its text has, and the text into a lent buffer.
 #![tactic(auto)]
+
 ghost use Rattle.std.specs.Prelude.{◌≡◌, [], ◌+◌, ◌*◌, ◌≤◌, length};
 ghost use Rattle.tables.specs.Table.{most_rows};
 ghost use Rattle.tables.specs.Planned.{planned_width};

@@ -1,17 +1,18 @@
 // Readers of a text from a cursor on: one word, and one number with the byte that ends it.
 #![tactic(auto)]
+
 ghost use Rattle.std.specs.Prelude.{◌≡◌, ◌≤◌, ◌<◌, length};
 ghost use Rattle.decimal.specs.Decimal.{nought};
 ghost use Rattle.reading.specs.inside.Read.{ReadsWord, ReadsNumber, EndsNumber, Grows};
 
 // A place in a text.
-#[derive(Drop)]
+#[derive(Clone, Copy)]
 pub struct Cursor {
     pub at: usize,
 }
 
 // A word was there, and the cursor behind it; or the place at which the text differs from it or ends.
-#[derive(Drop)]
+#[derive(Clone, Copy)]
 pub enum WordRead {
     Past(Cursor),
     Stuck(usize),
@@ -19,7 +20,7 @@ pub enum WordRead {
 
 // A number was there, the byte that ends it, and the cursor behind that byte; or the place up to which some such number
 // could stand there.
-#[derive(Drop)]
+#[derive(Clone, Copy)]
 pub enum NumberRead {
     Past(u64, u8, Cursor),
     Stuck(usize),
@@ -44,7 +45,7 @@ pub fn read_word(text: &[u8], from: Cursor, word: &[u8]) -> WordRead
 }
 
 // A number with one digit more; or none, where the byte is no digit or the number would be 0 or above the largest.
-#[derive(Drop)]
+#[derive(Clone, Copy)]
 enum Grown {
     More(u64),
     None,

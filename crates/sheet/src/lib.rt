@@ -1,5 +1,6 @@
 // The operation sheet: one pass over the text, then the limits of the table in ticks, then the room for it.
 #![tactic(auto)]
+
 ghost use Rattle.std.specs.Prelude.{◌≡◌, [], ◌++◌, ◌≤◌, ◌*◌, length, drop};
 ghost use Rattle.tables.specs.Table.{row_width, most_rows};
 ghost use Rattle.tables.specs.Checks.{Rows};
@@ -14,7 +15,7 @@ use reading::{Cursor, NumberRead, WordRead};
 use tables::{Answer, MOST_ROWS, ROW_WIDTH, TableCheck};
 
 // What a line `task C D T` says, in microseconds, and start and length of its region, both 0 where it has none.
-#[derive(Drop)]
+#[derive(Clone, Copy)]
 pub struct Times {
     pub c: u64,
     pub d: u64,
@@ -24,21 +25,21 @@ pub struct Times {
 }
 
 // Start and length of a region in ticks.
-#[derive(Drop)]
+#[derive(Clone, Copy)]
 pub struct RegionTicks {
     pub start: u32,
     pub length: u32,
 }
 
 // A task line was there, and the cursor behind it; or the place up to which one could stand there.
-#[derive(Drop)]
+#[derive(Clone, Copy)]
 pub enum LineRead {
     Past(Times, Cursor),
     Stuck(usize),
 }
 
 // The whole text is a well-formed sheet, with its number of tasks; or the place of refusal 9.
-#[derive(Drop)]
+#[derive(Clone, Copy)]
 pub enum SheetRead {
     Whole(usize),
     Stuck(usize),

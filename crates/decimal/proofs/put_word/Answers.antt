@@ -1,10 +1,9 @@
 -- `put_word` meets its contract. The loop's invariant: the bytes passed stand over the buffer.
-use Prim.Native.Nat.{◌≤◌, ◌-◌}
 use mathlib.Core.Path.{◌≡◌, refl, ◌∙◌}
 use native.Mathlib.Omega.{arith}
 use native.Mathlib.Numerals.{add-one}
 use lib.ListN.{length, length-set}
-use lib.Seq.{paste, paste-zero, paste-suc, take-length}
+use lib.Seq.{paste-zero, paste-suc, take-length}
 use borrow.Author.Rules.{rules}
 use Rattle.decimal.proofs.put_word.Goals as goal
 

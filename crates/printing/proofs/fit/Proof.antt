@@ -11,16 +11,16 @@ use Rattle.printing.proofs.fit.Statement.{statement}
 use Rattle.printing.proofs.fit.Tie as tie
 
 -- the numbers are 1 to 32 rows
-clear_shape : (c : tie.Else1) → Clear (planned_shape c.before.before.before.args.planned.now)
+clear_shape : (c : tie.Else-n-eq0) → Clear (planned_shape c.before.before.before.args.planned.now)
 clear_shape c =
-    let r = c.before.rows in
+    let r = c.before.rows-n in
     let n = r.ensures in
     shape_of_rows planned_width c.before.before.before.args.planned.now
     (record { n = r.result; whole = n.whole (omega arith); some = omega arith; few = n.few })
 
-returns : tie.Need-returns
+returns : tie.Need-returns-then-n-eq0
 returns c =
-    let none = c.before.rows.ensures.none c.if1.true in
+    let none = c.before.rows-n.ensures.none c.if-n-eq0.true in
     inl (record {
       number = refl;
       place = (refl, λ w. none w.n w.some w.few w.whole);
@@ -28,20 +28,20 @@ returns c =
       unwritten = refl;
     })
 
-plan_bytes_requires : tie.Need-plan-bytes-requires
-plan_bytes_requires c κs = let r = c.before.rows.ensures in (r.few, r.whole (omega arith))
+plan_bytes_requires : tie.Need-plan_bytes-bytes-requires
+plan_bytes_requires c κs = let r = c.before.rows-n.ensures in (r.few, r.whole (omega arith))
 
-returns_2 : tie.Need-returns-2
+returns_2 : tie.Need-returns-then-len-bytes
 returns_2 c =
-    let b = c.before.plan_bytes.ensures.0 in
+    let b = c.before.plan_bytes-bytes.ensures.0 in
     inr (
       clear_shape c.before.before,
       inl (record { number = refl; place = (refl, omega arith); value = refl; unwritten = refl }),
     )
 
-returns_3 : tie.Need-returns-3
+returns_3 : tie.Need-returns
 returns_3 c =
-    let b = c.before.plan_bytes.ensures.0 in
+    let b = c.before.plan_bytes-bytes.ensures.0 in
     inr (
       clear_shape c.before.before,
       inr (
@@ -53,4 +53,4 @@ returns_3 c =
 pub fit_spec : {M : Type 1} → statement M
 fit_spec =
     tie.close (tie.spec (λ c κs. search rules) returns plan_bytes_requires returns_2
-    (λ c. omega (arith, c.before.plan_bytes.ensures.1)) returns_3)
+    (λ c. omega (arith, c.before.plan_bytes-bytes.ensures.1)) returns_3)

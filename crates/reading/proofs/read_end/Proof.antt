@@ -12,24 +12,24 @@ use Rattle.reading.proofs.read_end.Statement.{statement}
 use Rattle.reading.proofs.read_end.Tie as tie
 
 -- the byte at hand, and what stands behind it
-ahead : (c : tie.After-shared-slice-known) →
+ahead : (c : tie.After-shared_slice_known-1) →
     let a = c.before.before.args in
     drop a.from.at a.text.now ≡ get_or a.text.now a.from.at 0 ∷ drop (a.from.at + 1) a.text.now
 ahead c =
-    let a = c.before.before.args in rw add-one (drop-cons a.text.now a.from.at 0 c.before.if1.false)
+    let a = c.before.before.args in rw add-one (drop-cons a.text.now a.from.at 0 c.before.if-text-place.false)
 
-returns_2 : tie.Need-returns-2
-returns_2 c = (refl, inl c.if2.true, refl, omega arith, ahead c.before)
+returns_2 : tie.Need-returns-then-byte-end
+returns_2 c = (refl, inl c.if-byte-end.true, refl, omega arith, ahead c.before)
 
-returns_3 : tie.Need-returns-3
-returns_3 c = (refl, inr c.if3.true, refl, omega arith, ahead c.before.before)
+returns_3 : tie.Need-returns-then-byte-other
+returns_3 c = (refl, inr c.if-byte-other.true, refl, omega arith, ahead c.before.before)
 
-returns_4 : tie.Need-returns-4
+returns_4 : tie.Need-returns
 returns_4 c = (
   refl,
   λ e u o g.
       let same = ap (λ (r : List ℕ). get_or r 0 0) (sym (ahead c.before.before) ∙ g) in
-      ⊎_elim (λ q. c.before.if2.false (same ∙ q)) (λ q. c.if3.false (same ∙ q)) o,
+      ⊎_elim (λ q. c.before.if-byte-end.false (same ∙ q)) (λ q. c.if-byte-other.false (same ∙ q)) o,
 )
 
 pub read_end_spec : {M : Type 1} → statement M

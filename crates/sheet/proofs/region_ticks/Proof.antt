@@ -12,26 +12,26 @@ use Rattle.sheet.proofs.region_ticks.Tie as tie
 small : (s : tie.Start) → (s.args.start ≤ longest_time) × (s.args.length ≤ longest_time)
 small s = region_small s.args.start s.args.length s.requires.0
 
-returns : tie.Need-returns
+returns : tie.Need-returns-then-length-eq0
 returns c =
     let s = c.before in
-    rw (← region_none s.args.start s.args.length s.requires.0 c.if1.true) (refl, refl)
+    rw (← region_none s.args.start s.args.length s.requires.0 c.if-length-eq0.true) (refl, refl)
 
-sub_t7 : tie.Need-overflow-sub-t7
+sub_t7 : tie.Need-overflow_sub-result
 sub_t7 c =
     let a = c.before.before.args in
-    omega (arith, c.round_up.ensures, start_end a.start a.length a.tick)
+    omega (arith, c.round_up-end.ensures, start_end a.start a.length a.tick)
 
-cast_t9 : tie.Need-overflow-cast-t9
+cast_t9 : tie.Need-overflow_cast-result-2
 cast_t9 c =
     let s = c.before.before in
     let end = up_small (s.args.start + s.args.length) s.args.tick s.requires.1.low in
-    record { fits = omega (arith, c.round_up.ensures, small s) }
+    record { fits = omega (arith, c.round_up-end.ensures, small s) }
 
-returns_2 : tie.Need-returns-2
+returns_2 : tie.Need-returns
 returns_2 c =
     let a = c.before.before.args in
-    rw (← region_some a.start a.length (omega (arith, c.before.if1.false)), c.round_up.ensures) (refl, refl)
+    rw (← region_some a.start a.length (omega (arith, c.before.if-length-eq0.false)), c.round_up-end.ensures) (refl, refl)
 
 pub region_ticks_spec : {M : Type 1} → statement M
 region_ticks_spec =

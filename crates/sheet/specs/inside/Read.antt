@@ -1,5 +1,5 @@
 -- What the readers of lines answer: each case of their enums, said of the line that is read.
-use Rattle.std.specs.Prelude.{ℕ, zero, suc, ◌+◌, ◌*◌, ◌≤◌, ◌≡◌, List, [], ◌++◌, length, drop}
+use Rattle.std.specs.Prelude.{ℕ, zero, suc, ◌*◌, ◌≤◌, ◌≡◌, List, [], ◌++◌, length, drop}
 use Rattle.std.proofs.Math.Option.{Option, none, some}
 use Rattle.tables.specs.Table.{row_width, most_rows}
 use Rattle.decimal.specs.Word.{word}
