@@ -1,5 +1,6 @@
 // The program over the library: a sheet from standard input, its plan or its refusal to standard output.
 #![tactic(auto)]
+
 ghost use Rattle.std.specs.Prelude.{◌≤◌, length, ◌≡◌};
 ghost use Rattle.tables.specs.Checks.{Rows};
 ghost use Rattle.tables.specs.Planned.{planned_width};
@@ -7,6 +8,7 @@ ghost use Rattle.printing.specs.Printed.{plan_text, refused_line};
 ghost use Rattle.program.specs.Reply.{Page, PagePlanned, longest_page};
 ghost use Rattle.program.specs.inside.Input.{Within};
 
+use std::io::{self, Read};
 use tables::{MOST_ROWS, PLANNED_WIDTH, ROW_WIDTH};
 
 // The line of a refusal.
@@ -55,22 +57,21 @@ pub fn reply<'a>(text: &[u8], page: &'a mut [u8]) -> &'a mut [u8]
 }
 
 // The bytes of the input up to its end or the buffer's, or that it could not be read.
-#[derive(Drop)]
+#[derive(Clone, Copy)]
 enum Input {
     Whole(usize),
     Failed,
 }
 
-fn read_input(buf: &mut [u8]) -> Input
+fn read_input<R: Read>(input: &mut R, buf: &mut [u8]) -> Input
     ensures { Within buf.new result }
 {
     let mut n: usize = 0;
     while n < buf.len() {
-        let got = libc::read(0, &mut buf[n..]);
-        if got < 0 {
-            return Input::Failed;
-        }
-        let more = io::count(got, &buf[n..]);
+        let more = match input.read(&mut buf[n..]) {
+            Ok(more) => more,
+            Err(_) => return Input::Failed,
+        };
         if more == 0 {
             return Input::Whole(n);
         }
@@ -79,20 +80,22 @@ fn read_input(buf: &mut [u8]) -> Input
     Input::Whole(n)
 }
 
+// What could not be read or written, on standard error; where that fails too nothing is left to say.
+fn report(rt: &impl Eprint, fault: &str) {
+    let _ = eprintln!(rt; "planner: {fault}");
+}
+
 // The buffer of 4,096 bytes holds every well-formed sheet, and a longer text has the page of its first 4,096 bytes
 // (`page_cut`).
-pub fn run() {
-    let mut text = io::buffer();
-    let input = read_input(&mut text);
-    match input {
-        Input::Failed => {
-            io::write_all(2, b"planner: standard input cannot be read\n");
-        }
+pub fn run(rt: &(impl io::Input + Print + Eprint)) {
+    let mut text = [0u8; 4096];
+    match read_input(&mut rt.reader(), &mut text) {
+        Input::Failed => report(rt, "standard input cannot be read"),
         Input::Whole(n) => {
-            let mut page = io::buffer();
+            let mut page = [0u8; 4096];
             let written = reply(&text[..n], &mut page);
-            if !io::write_all(1, written) {
-                io::write_all(2, b"planner: standard output cannot be written\n");
+            if rt.write_all(written).is_err() {
+                report(rt, "standard output cannot be written");
             }
         }
     }
