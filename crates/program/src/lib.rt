@@ -6,9 +6,10 @@ ghost use Rattle.tables.specs.Checks.{Rows};
 ghost use Rattle.tables.specs.Planned.{planned_width};
 ghost use Rattle.printing.specs.Printed.{plan_text, refused_line};
 ghost use Rattle.program.specs.Reply.{Page, PagePlanned, longest_page};
-ghost use Rattle.program.specs.inside.Input.{Within};
+ghost use Rattle.program.specs.Run.{WritesPage};
+ghost use Rattle.program.specs.inside.Input.{Within, ReadsFront};
 
-use std::io::{self, Read};
+use std::io::{self, Read, Write};
 use tables::{MOST_ROWS, PLANNED_WIDTH, ROW_WIDTH};
 
 // The line of a refusal.
@@ -64,7 +65,8 @@ enum Input {
 }
 
 fn read_input<R: Read>(input: &mut R, buf: &mut [u8]) -> Input
-    ensures { Within buf.new result }
+    ensures within { Within buf.new result }
+    ensures front { ReadsFront (R.remaining input.old) (R.remaining input.new) buf.new result }
 {
     let mut n: usize = 0;
     while n < buf.len() {
@@ -80,23 +82,37 @@ fn read_input<R: Read>(input: &mut R, buf: &mut [u8]) -> Input
     Input::Whole(n)
 }
 
-// What could not be read or written, on standard error; where that fails too nothing is left to say.
-fn report(rt: &impl Eprint, fault: &str) {
-    let _ = eprintln!(rt; "planner: {fault}");
+// What a run comes to: the page is written, or the input could not be read, or the page not written.
+#[derive(Clone, Copy)]
+pub enum Outcome {
+    Written,
+    Unread,
+    Unwritten,
 }
 
-// The buffer of 4,096 bytes holds every well-formed sheet, and a longer text has the page of its first 4,096 bytes
-// (`page_cut`).
-pub fn run(rt: &(impl io::Input + Print + Eprint)) {
+// The page of the input, to the output. The buffer of 4,096 bytes holds every well-formed sheet, and a longer text has
+// the page of its first 4,096 bytes (`page_cut`).
+pub fn answer<R: Read, W: Write>(input: &mut R, output: &mut W) -> Outcome
+    ensures { WritesPage (R.remaining input.old) (W.contents output.old) (W.contents output.new) result }
+{
     let mut text = [0u8; 4096];
-    match read_input(&mut rt.reader(), &mut text) {
-        Input::Failed => report(rt, "standard input cannot be read"),
-        Input::Whole(n) => {
-            let mut page = [0u8; 4096];
-            let written = reply(&text[..n], &mut page);
-            if rt.write_all(written).is_err() {
-                report(rt, "standard output cannot be written");
-            }
-        }
+    let n = match read_input(input, &mut text) {
+        Input::Whole(n) => n,
+        Input::Failed => return Outcome::Unread,
+    };
+    let mut page = [0u8; 4096];
+    match output.write_all(reply(&text[..n], &mut page)) {
+        Ok(()) => Outcome::Written,
+        Err(_) => Outcome::Unwritten,
     }
+}
+
+// Answers standard input on standard output; what went wrong is said on standard error, if it can be.
+pub fn run(rt: &(impl io::Input + Print + Eprint)) {
+    let fault = match answer(&mut rt.reader(), &mut io::writer(rt)) {
+        Outcome::Written => return,
+        Outcome::Unread => "standard input cannot be read",
+        Outcome::Unwritten => "standard output cannot be written",
+    };
+    let _ = eprintln!(rt; "planner: {fault}");
 }
