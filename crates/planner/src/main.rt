@@ -1,5 +1,6 @@
 // The program `planner`: a sheet from standard input, its plan or its refusal to standard output.
 #![tactic(auto)]
-fn main() {
-    program::run();
+
+fn main(rt: HostRuntime) {
+    program::run(&rt);
 }

@@ -1,2 +1,3 @@
 -- The laws of the crate `program`.
 pub mod Pages
+pub mod Turns

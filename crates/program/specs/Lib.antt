@@ -1,3 +1,4 @@
 -- The definitions of the crate `program`.
 pub mod Reply
+pub mod Run
 pub mod inside

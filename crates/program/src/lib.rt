@@ -1,12 +1,15 @@
 // The program over the library: a sheet from standard input, its plan or its refusal to standard output.
 #![tactic(auto)]
+
 ghost use Rattle.std.specs.Prelude.{◌≤◌, length, ◌≡◌};
 ghost use Rattle.tables.specs.Checks.{Rows};
 ghost use Rattle.tables.specs.Planned.{planned_width};
 ghost use Rattle.printing.specs.Printed.{plan_text, refused_line};
 ghost use Rattle.program.specs.Reply.{Page, PagePlanned, longest_page};
-ghost use Rattle.program.specs.inside.Input.{Within};
+ghost use Rattle.program.specs.Run.{WritesPage};
+ghost use Rattle.program.specs.inside.Input.{Within, ReadsFront};
 
+use std::io::{self, Read, Write};
 use tables::{MOST_ROWS, PLANNED_WIDTH, ROW_WIDTH};
 
 // The line of a refusal.
@@ -55,22 +58,22 @@ pub fn reply<'a>(text: &[u8], page: &'a mut [u8]) -> &'a mut [u8]
 }
 
 // The bytes of the input up to its end or the buffer's, or that it could not be read.
-#[derive(Drop)]
+#[derive(Clone, Copy)]
 enum Input {
     Whole(usize),
     Failed,
 }
 
-fn read_input(buf: &mut [u8]) -> Input
-    ensures { Within buf.new result }
+fn read_input<R: Read>(input: &mut R, buf: &mut [u8]) -> Input
+    ensures within { Within buf.new result }
+    ensures front { ReadsFront (R.remaining input.old) (R.remaining input.new) buf.new result }
 {
     let mut n: usize = 0;
     while n < buf.len() {
-        let got = libc::read(0, &mut buf[n..]);
-        if got < 0 {
-            return Input::Failed;
-        }
-        let more = io::count(got, &buf[n..]);
+        let more = match input.read(&mut buf[n..]) {
+            Ok(more) => more,
+            Err(_) => return Input::Failed,
+        };
         if more == 0 {
             return Input::Whole(n);
         }
@@ -79,21 +82,37 @@ fn read_input(buf: &mut [u8]) -> Input
     Input::Whole(n)
 }
 
-// The buffer of 4,096 bytes holds every well-formed sheet, and a longer text has the page of its first 4,096 bytes
-// (`page_cut`).
-pub fn run() {
-    let mut text = io::buffer();
-    let input = read_input(&mut text);
-    match input {
-        Input::Failed => {
-            io::write_all(2, b"planner: standard input cannot be read\n");
-        }
-        Input::Whole(n) => {
-            let mut page = io::buffer();
-            let written = reply(&text[..n], &mut page);
-            if !io::write_all(1, written) {
-                io::write_all(2, b"planner: standard output cannot be written\n");
-            }
-        }
+// What a run comes to: the page is written, or the input could not be read, or the page not written.
+#[derive(Clone, Copy)]
+pub enum Outcome {
+    Written,
+    Unread,
+    Unwritten,
+}
+
+// The page of the input, to the output. The buffer of 4,096 bytes holds every well-formed sheet, and a longer text has
+// the page of its first 4,096 bytes (`page_cut`).
+pub fn answer<R: Read, W: Write>(input: &mut R, output: &mut W) -> Outcome
+    ensures { WritesPage (R.remaining input.old) (W.contents output.old) (W.contents output.new) result }
+{
+    let mut text = [0u8; 4096];
+    let n = match read_input(input, &mut text) {
+        Input::Whole(n) => n,
+        Input::Failed => return Outcome::Unread,
+    };
+    let mut page = [0u8; 4096];
+    match output.write_all(reply(&text[..n], &mut page)) {
+        Ok(()) => Outcome::Written,
+        Err(_) => Outcome::Unwritten,
     }
+}
+
+// Answers standard input on standard output; what went wrong is said on standard error, if it can be.
+pub fn run(rt: &(impl io::Input + Print + Eprint)) {
+    let fault = match answer(&mut rt.reader(), &mut io::writer(rt)) {
+        Outcome::Written => return,
+        Outcome::Unread => "standard input cannot be read",
+        Outcome::Unwritten => "standard output cannot be written",
+    };
+    let _ = eprintln!(rt; "planner: {fault}");
 }

@@ -1,6 +1,7 @@
 // The public library: the seven operations as licensees call them. A promise here is the operation's own, with
-// number, place and value as C has them.
+// number, place and value as C has them. The crate `templetbark_c` exports them for C.
 #![tactic(auto)]
+
 ghost use Rattle.std.specs.Prelude.{[], ◌≡◌, length};
 ghost use Rattle.test.specs.Answers.{TimesAnswer, VerdictAnswer};
 ghost use Rattle.choice.specs.Answers.{PlanAnswer};
@@ -12,16 +13,14 @@ ghost use Rattle.templetbark.specs.Said.{said_of};
 use tables::Said;
 
 // plan: ranks, lengths of the final regions and responses for the tasks of a table.
-#[unsafe(no_mangle)]
-pub extern "C" fn tb_plan(table: &[u32], out: &mut [u32]) -> Said
+pub fn tb_plan(table: &[u32], out: &mut [u32]) -> Said
     ensures { PlanAnswer table.now out.old (said_of result out.new) }
 {
     tables::say(plan::plan(table, out))
 }
 
 // times: the response of each row of a table under a plan that is given.
-#[unsafe(no_mangle)]
-pub extern "C" fn tb_times(table: &[u32], plan: &[u32], out: &mut [u32]) -> Said
+pub fn tb_times(table: &[u32], plan: &[u32], out: &mut [u32]) -> Said
     ensures { TimesAnswer table.now plan.now out.old
         (said_of result out.new) }
 {
@@ -29,16 +28,14 @@ pub extern "C" fn tb_times(table: &[u32], plan: &[u32], out: &mut [u32]) -> Said
 }
 
 // verdict: 1 where no row's response passes its deadline under the plan that is given, and 0 where one does.
-#[unsafe(no_mangle)]
-pub extern "C" fn tb_verdict(table: &[u32], plan: &[u32]) -> Said
+pub fn tb_verdict(table: &[u32], plan: &[u32]) -> Said
     ensures { VerdictAnswer table.now plan.now (said_of result []) }
 {
     tables::say(times::verdict(table, plan))
 }
 
 // play: when each job of a list finishes, under the kernel's dispatch rule and a plan that is given.
-#[unsafe(no_mangle)]
-pub extern "C" fn tb_play(table: &[u32], plan: &[u32], jobs: &[u32], out: &mut [u32]) -> Said
+pub fn tb_play(table: &[u32], plan: &[u32], jobs: &[u32], out: &mut [u32]) -> Said
     ensures { PlayAnswer table.now plan.now jobs.now out.old
         (said_of result out.new) }
 {
@@ -46,24 +43,21 @@ pub extern "C" fn tb_play(table: &[u32], plan: &[u32], jobs: &[u32], out: &mut [
 }
 
 // sheet: the task table in ticks that a sheet's text says.
-#[unsafe(no_mangle)]
-pub extern "C" fn tb_sheet(text: &[u8], out: &mut [u32]) -> Said
+pub fn tb_sheet(text: &[u8], out: &mut [u32]) -> Said
     ensures { SheetAnswer text.now out.old (said_of result out.new) }
 {
     tables::say(sheet::sheet(text, out))
 }
 
 // print: the text of a planned table, at the front of the lent buffer.
-#[unsafe(no_mangle)]
-pub extern "C" fn tb_print(planned: &[u32], buf: &mut [u8]) -> Said
+pub fn tb_print(planned: &[u32], buf: &mut [u8]) -> Said
     ensures { PrintAnswer planned.now buf.old (said_of result buf.new) }
 {
     tables::say(printing::print_into(planned, buf))
 }
 
 // fit: what print answers for a buffer of this length, with nothing lent to write to.
-#[unsafe(no_mangle)]
-pub extern "C" fn tb_fit(planned: &[u32], len: usize) -> Said
+pub fn tb_fit(planned: &[u32], len: usize) -> Said
     ensures { FitAnswer planned.now len (said_of result []) }
 {
     tables::say(printing::fit(planned, len))
