@@ -1,5 +1,5 @@
 -- `answer` meets its contract: the page of what was read is the page of the input.
-use Rattle.std.proofs.Common.{arith, ◌≤◌, ◌<◌, length, take, length-take-le}
+use Rattle.std.proofs.Common.{arith, length, take, length-take-le}
 use Rattle.program.proofs.Turns.{page_written}
 use Rattle.program.proofs.answer.Goals as goal
 

@@ -1,5 +1,5 @@
 -- What each turn read follows what was read before it, and a read of nothing is the input's end.
-use Rattle.std.proofs.Common.{rules, arith, ◌≡◌, ◌+◌, ◌≤◌, ◌<◌, ◌-◌, length, take, ap, ◌∙◌, subst}
+use Rattle.std.proofs.Common.{rules, arith, ◌≡◌, ◌+◌, ◌-◌, length, take, ap, ◌∙◌, subst}
 use borrow.Rule.Slice.PartMut.{put_mid}
 use Rattle.std.specs.Io.KnownBytes.{Consumes}
 use Rattle.program.proofs.Turns.{consumes_nil, consumes_more, read_front}

@@ -1,5 +1,5 @@
 -- What was read so far is the front of the input, and stands at the front of the buffer.
-use Rattle.std.proofs.Common.{length, ◌-◌, ◌≤◌, ◌≡◌, take}
+use Rattle.std.proofs.Common.{length, ◌-◌, ◌≤◌, take}
 use Rattle.std.specs.Io.KnownBytes.{Consumes}
 use Rattle.program.proofs.read_input.Given as goal
 
