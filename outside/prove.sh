@@ -12,7 +12,8 @@ if [ -f "crates/$name/src/main.rt" ]; then
     build() { rt run </dev/null 2>&1 >/dev/null; }
 else
     made=crates/$name/out/lib$name.a
-    build() { rt lib 2>&1; }
+    # For every x86-64 processor, as the header says: unlike a program an archive does not look at the one that it is on.
+    build() { rt lib --cpu x86-64 2>&1; }
 fi
 
 {
