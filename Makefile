@@ -1,9 +1,9 @@
 # The README's two commands, make test and make run, and what licensees and the curious need besides.
 .DEFAULT_GOAL := help
-.PHONY: help test run lib install program sheets kit sheet-is-there
+.PHONY: help test tried-from-outside run lib install program sheets kit sheet-is-there
 
 # The kit that the proofs were made with, as `rt version` names it.
-KIT := rattle-kit-5b logic 064da1ca440f63e7
+KIT := rattle-kit-13f logic dac8208d650f15bf
 
 PREFIX ?= /usr/local
 
@@ -22,13 +22,14 @@ help:
 	@echo 'make bench             measures the library (docs/PERFORMANCE.md)'
 	@echo 'make outside-wrong     tries the comparison on wrong libraries'
 
-# Everything: what is tried from outside on the archive and then on the program, since two runs of rt
-# cannot share target/; last the kit's own verdict from nothing, whose last line is the gate's.
+# Everything: what is tried from outside, and last the kit's own verdict, whose last line is the gate's.
 test: kit tools-are-there
-	@rt fmt --check
+	@.ci/run
+
+# What is tried on the archive and on the program; what these stand on is proved once for both.
+tried-from-outside: kit tools-are-there
 	@$(MAKE) --no-print-directory --jobs=2 outside-test
 	@$(MAKE) --no-print-directory sheets
-	@rt ci
 
 # The plan of a sheet, and nothing else, on standard output.
 run: sheet-is-there program
@@ -39,24 +40,22 @@ sheets: program
 	@outside/sheets.sh examples/sheets $(OUTSIDE)/sheets $(X86_RUN) target/bin/planner
 	@outside/commands.sh $(OUTSIDE)/commands
 
-# The archive that licensees link, target/staticlib/libtempletbark.a. What the library stands on is
-# proved first, side by side: rt staticlib by itself takes one crate after the other.
+# The archive that licensees link, target/staticlib/libtempletbark.a: the kit names it after its crate.
 lib: kit
-	@rt check $(shell sed -n 's/^templetbark://p' crates.txt)
-	@rt staticlib templetbark
+	@outside/prove.sh templetbark_c $(ARCHIVE)
 
 install: archive-is-there
 	@outside/install.sh $(ARCHIVE) '$(DESTDIR)' '$(PREFIX)'
 
 # The program, target/bin/planner.
 program: kit
-	@outside/prove.sh planner
+	@outside/prove.sh planner target/bin/planner
 
 kit:
 	@command -v rt >/dev/null || { echo "make: the Rattle kit is missing: its command rt is not on the path" >&2; exit 1; }
 	@[ "$$(rt version)" = '$(KIT)' ] || echo "make: the kit here is $$(rt version); the proofs were made with $(KIT)" >&2
 	@mkdir -p target 2>/dev/null && [ -w target ] || \
-		{ echo "make: target/ cannot be written here, and proofs and what is built are kept there" >&2; exit 1; }
+		{ echo "make: target/ cannot be written here, and what is built is put there" >&2; exit 1; }
 
 sheet-is-there:
 	@[ -n "$$SHEET" ] || { echo "make run: name a sheet, as in make run SHEET=path" >&2; exit 4; }

@@ -2,7 +2,7 @@
 # Tries make run as README describes it: what it prints, its status, and the ways in which it can go
 # wrong.
 #
-# commands.sh FOLDER: target/bin/planner is there; FOLDER keeps what was printed.
+# commands.sh FOLDER: the program is built; FOLDER keeps what was printed.
 set -u
 folder=$1 faults=0 tried=0
 here=$(pwd -P)
@@ -51,9 +51,11 @@ if run examples/sheets/two_tasks.sheet >&-; then
     fault 'a closed standard output was not seen'
 fi
 
-: >target/bin/planner
+built='target/bin/planner crates/planner/out/planner'
+for file in $built; do : >"$file"; done
 asks 'an exchanged program' 0 "$sheets/two_tasks.plan" examples/sheets/two_tasks.sheet
-rm target/bin/planner
+# shellcheck disable=SC2086
+rm $built
 asks 'a deleted program' 0 "$sheets/two_tasks.plan" examples/sheets/two_tasks.sheet
 
 echo "commands.sh: $tried tried, $faults faults"

@@ -1,13 +1,12 @@
 # The outside tests and the benchmark of the library's archive; they write to target/outside only.
 #
-# The archive is x86-64 code. What links it is compiled, linked and run by the kit's own tools,
-# under the kit's emulator where the machine is of another kind; what judges it is Rust for the
-# machine itself, and asks over a pipe.
+# The archive is x86-64 code, and so is the kit. What links the archive is compiled, linked and run by
+# the kit's own tools; what judges it is Rust, and asks over a pipe.
 
 ARCHIVE ?= target/staticlib/libtempletbark.a
 
 OUTSIDE := target/outside
-KIT_HERE = $(patsubst %/docs/START-HERE.md,%,$(shell rt doc))/on/$(shell uname -m)
+KIT_HERE = $(patsubst %/START-HERE.md,%,$(shell rt doc))
 KIT_TOOLS = $(KIT_HERE)/toolchain
 
 # Warnings are shown and refuse nothing: a later rustc has others.
@@ -17,7 +16,7 @@ X86_CC = $(X86_CLANG) --target=x86_64-unknown-linux-gnu -O2 -fPIC -std=c99 -Wall
 	-nostdinc -isystem $(shell cc -print-file-name=include) -Iinclude
 X86_LIBC = $(addprefix -isystem ,$(wildcard /usr/include/$(shell uname -m)-linux-gnu) /usr/include)
 X86_LINK = $(KIT_HERE)/bin/rattle-link --target x86_64-unknown-linux-gnu --toolchain $(KIT_TOOLS) -o
-X86_RUN = $(wildcard $(KIT_TOOLS)/bin/qemu-x86_64) $(KIT_TOOLS)/lib/ld-linux-x86-64.so.2 --library-path $(KIT_TOOLS)/lib
+X86_RUN = $(KIT_TOOLS)/lib/ld-linux-x86-64.so.2 --library-path $(KIT_TOOLS)/lib
 
 .PHONY: outside-test outside-wrong bench archive-is-there tools-are-there
 
