@@ -13,7 +13,7 @@ use Rattle.printing.proofs.print_into.Goals as goal
 pub put_plan-requires : goal.put_plan-requires
 put_plan-requires c =
     let a = c.args in
-    let f = fit_given a.planned.now a.buf.now c.fit-answer.ensures (sym c.say-said.ensures.0 ∙ c.if-said-eq0.true) in
+    let f = fit_given a.planned.now a.buf.now c.fit-answer.ensures (omega (arith, c.say-said.ensures.0)) in
     let r = rows_of_shape planned_width a.planned.now f.0 in (omega arith, omega arith, f.1)
 
 pub returns-then-said-eq0 : goal.returns-then-said-eq0
