@@ -213,8 +213,7 @@ fn read_sheet(text: &[u8], table: &mut [u32]) -> SheetRead
 // The numbers to the front of the output.
 fn put_front(numbers: &[u32], out: &mut [u32])
     requires { length numbers.now ≤ length out.old }
-    ensures { out.new ≡ numbers.now ++ drop (length numbers.now)
-        out.old }
+    ensures { out.new ≡ numbers.now ++ drop (length numbers.now) out.old }
 {
     let mut i: usize = 0;
     while i < numbers.len() {
