@@ -1,7 +1,7 @@
 -- What the jobs of a level, of rank r or higher, and the jobs below it execute under the dispatch rule: the last tick
 -- at which the level was settled, the ticks that are busy with it since, and the one job below that may still run in
 -- them.
-use Prim.Native.Nat.{ℕ, zero, suc, ◌+◌, ◌-◌, ◌≤◌, ◌<◌}
+use Prim.Native.Nat.{ℕ, zero, suc, ◌+◌, ◌≤◌, ◌<◌}
 use mathlib.Core.Path.{◌≡◌, ap, subst}
 use mathlib.Core.Bool.{Bool, true, ◌&&◌}
 use native.Mathlib.Omega.{arith}

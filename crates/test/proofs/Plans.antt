@@ -1,6 +1,6 @@
 -- Laws of a plan's rows: blocking, and that under a busy period within H every active period and every response exists,
 -- within it.
-use Prim.Native.Nat.{ℕ, pred, suc, ◌+◌, ◌-◌, ◌≤◌, ◌<◌}
+use Prim.Native.Nat.{ℕ, pred, suc, ◌+◌, ◌≤◌, ◌<◌}
 use mathlib.Core.Path.{◌≡◌, refl, ap, ◌∙◌}
 use mathlib.Core.Bool.{Bool, false}
 use native.Mathlib.Omega.{arith}

@@ -1,13 +1,10 @@
 -- `write` meets its contract: a turn of the loop puts one planned row into its own part.
-use Prim.Native.Nat.{◌≤◌, ◌+◌, ◌*◌, ◌-◌}
-use mathlib.Core.Path.{◌≡◌, refl, ◌∙◌}
+use Prim.Native.Nat.{◌≤◌, ◌*◌, ◌-◌}
+use mathlib.Core.Path.{◌≡◌}
 use mathlib.Core.List.{◌++◌}
-use native.Mathlib.Omega.{arith}
 use lib.ListN.{length, drop}
-use borrow.Rule.Slice.PartMut.{same_len_mid}
 use Rattle.tables.specs.Planned.{planned_width}
 use Rattle.planned.specs.inside.Planned.{planned}
-use Rattle.planned.proofs.Written.{planned_none, planned_more}
 use Rattle.planned.proofs.write.Given as goal
 
 abbrev pub invariant-loop-i : goal.invariant-loop-i

@@ -1,6 +1,5 @@
 -- `cap_of` meets its contract: the least of the row's own cap and the best so far less 1, or nothing.
 use native.Mathlib.Omega.{arith}
-use borrow.Author.Rules.{rules}
 use Rattle.search.proofs.cap_of.Goals as goal
 
 pub returns-then-best-eq0 : goal.returns-then-best-eq0

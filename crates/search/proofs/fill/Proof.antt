@@ -16,10 +16,10 @@ use Rattle.counting.proofs.Cases.{not_both, and_left}
 use Rattle.counting.proofs.Up.{up_le, lt_up}
 use Rattle.marks.specs.inside.Marks.{marked}
 use Rattle.marks.proofs.Marks.{something, count_something}
-use Rattle.tables.specs.Table.{Table, Within, most, most_rows}
+use Rattle.tables.specs.Table.{Table, Within, most_rows}
 use Rattle.tables.specs.Plan.{cap, longer}
 use Rattle.tables.specs.inside.Rows.{table_in}
-use Rattle.tables.proofs.Plan.{cap_is, cap_run, longer_in_lem, longer_ge}
+use Rattle.tables.proofs.Plan.{cap_is, cap_run, longer_in_lem}
 use Rattle.test.specs.Test.{horizon, upto, load, jobs, Active, active_side, start_side, Response}
 use Rattle.test.proofs.Load.{Positive, sound_positive}
 use Rattle.test.proofs.Starts.{released_within}
@@ -34,7 +34,7 @@ use Rattle.sides.proofs.Level.{Asking, start_of_is}
 use Rattle.responses.proofs.Jobs.{Working, jobs_few, length_first, base_within}
 use Rattle.choice.specs.Choice.{Fits, Takes}
 use Rattle.search.specs.inside.Worth.{Worth}
-use Rattle.search.proofs.Period.{Searchable, positive, period_within, period_first, period_exists}
+use Rattle.search.proofs.Period.{Searchable, period_within, period_first, period_exists}
 use Rattle.search.proofs.Period.{period_found, kept_without}
 use Rattle.search.proofs.Trial.{Trial, trial_first, trial_within, trial_again, trial_misses, trial_after}
 use Rattle.search.proofs.Trial.{trial_next, trial_passes}

@@ -1,6 +1,5 @@
 -- `first_fault` meets its contract: no row passed has a number at fault.
-use Prim.Native.Nat.{ℕ, ◌-◌, ◌≤◌, ◌<◌}
-use mathlib.Core.Path.{◌≡◌, subst}
+use mathlib.Core.Path.{subst}
 use native.Mathlib.Omega.{arith}
 use borrow.Author.Count.{below_none, below_more}
 use Rattle.counting.proofs.Cases.{by_le, by_eq}

@@ -1,12 +1,8 @@
 -- `first_fault` meets its contract: no row passed has a number at fault.
 use Prim.Native.Nat.{ℕ, ◌-◌, ◌≤◌, ◌<◌}
-use mathlib.Core.Path.{◌≡◌, subst}
-use native.Mathlib.Omega.{arith}
-use borrow.Author.Count.{below_none, below_more}
-use Rattle.counting.proofs.Cases.{by_le, by_eq}
+use mathlib.Core.Path.{◌≡◌}
 use Rattle.tables.specs.Table.{table_of}
 use Rattle.tables.specs.Checks.{NumberAtFault}
-use Rattle.tables.proofs.Numbers.{number_in}
 use Rattle.tables.proofs.first_fault.Given as goal
 
 abbrev pub invariant-loop-passed : goal.invariant-loop-passed

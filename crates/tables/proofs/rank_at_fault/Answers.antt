@@ -4,7 +4,6 @@ use mathlib.Core.Logic.{inl, inr, ⊎_elim}
 use native.Mathlib.Omega.{arith}
 use Rattle.tables.specs.Plan.{plan_width}
 use Rattle.tables.proofs.Checked.{says_map}
-use borrow.Author.Rules.{rules}
 use Rattle.tables.proofs.rank_at_fault.Goals as goal
 
 pub returns : goal.returns

@@ -1,10 +1,6 @@
 -- `rank_taken` meets its contract: no row passed has the rank.
-use Prim.Native.Nat.{ℕ, ◌≤◌, ◌<◌, ◌*◌, ◌-◌}
-use mathlib.Core.Path.{◌≡◌}
 use native.Mathlib.Omega.{arith}
-use lib.ListN.{get_or}
 use borrow.Author.Count.{below_none, below_more}
-use Rattle.tables.specs.Plan.{plan_width}
 use borrow.Author.Rules.{rules}
 use Rattle.tables.proofs.rank_taken.Goals as goal
 

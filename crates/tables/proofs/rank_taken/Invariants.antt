@@ -1,9 +1,7 @@
 -- `rank_taken` meets its contract: no row passed has the rank.
 use Prim.Native.Nat.{ℕ, ◌≤◌, ◌<◌, ◌*◌, ◌-◌}
 use mathlib.Core.Path.{◌≡◌}
-use native.Mathlib.Omega.{arith}
 use lib.ListN.{get_or}
-use borrow.Author.Count.{below_none, below_more}
 use Rattle.tables.specs.Plan.{plan_width}
 use Rattle.tables.proofs.rank_taken.Given as goal
 

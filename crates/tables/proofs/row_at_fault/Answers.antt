@@ -1,7 +1,6 @@
 -- `row_at_fault` meets its contract: at fault by its rank or by its length.
 use mathlib.Core.Logic.{inl, inr, ⊎_elim}
 use Rattle.tables.proofs.Checked.{says_map, says_yes, says_no}
-use borrow.Author.Rules.{rules}
 use Rattle.tables.proofs.row_at_fault.Goals as goal
 
 pub returns-then-rank_at_fault : goal.returns-then-rank_at_fault

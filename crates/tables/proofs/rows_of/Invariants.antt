@@ -1,10 +1,9 @@
 -- `rows_of` meets its contract: the array holds the rows passed, and zeros after them.
 use Prim.Native.Nat.{◌≤◌, ◌-◌}
-use mathlib.Core.Path.{◌≡◌, refl}
-use native.Mathlib.Omega.{arith}
+use mathlib.Core.Path.{◌≡◌}
 use lib.ListN.{length}
 use Rattle.tables.specs.inside.Rows.{no}
-use Rattle.tables.proofs.Rows.{row_at, Holds, holds_none, holds_more, table_rows}
+use Rattle.tables.proofs.Rows.{row_at, Holds}
 use Rattle.tables.proofs.rows_of.Given as goal
 
 abbrev pub invariant-loop-i : goal.invariant-loop-i
