@@ -19,8 +19,8 @@ loop-i-preserved c =
     let P = above (plan_of c.args.plan.now) c.args.rank in (
       search rules,
       elim c.if-plan-at.branch [
-        then-plan-at w ↦ rw w.set-is (where_more P _ _ c.loop-i.invariant.1 _ (lt-ltb _ _ w.if-plan-at.true) w.more-set.ensures)
-      | else-plan-at w ↦ rw w.set-is (where_same P _ _ c.loop-i.invariant.1 (le-ltb _ _ w.if-plan-at.false))
+        | then-plan-at w ↦ rw w.set-is (where_more P _ _ c.loop-i.invariant.1 _ (lt-ltb _ _ w.if-plan-at.true) w.more-set.ensures)
+        | else-plan-at w ↦ rw w.set-is (where_same P _ _ c.loop-i.invariant.1 (le-ltb _ _ w.if-plan-at.false))
       ],
     )
 

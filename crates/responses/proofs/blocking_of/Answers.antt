@@ -19,8 +19,8 @@ loop-i-preserved c =
     let same = longest_same (plan_of a.plan.now) a.blocks.now a.rank c.loop-i.i in (
       search rules,
       elim c.if-rank-plan.branch [
-        then-rank-plan w ↦ omega (arith, more w.if-rank-plan.true, w.larger-longest.ensures, w.longest-is)
-      | else-rank-plan w ↦ omega (arith, same w.if-rank-plan.false, w.longest-is)
+        | then-rank-plan w ↦ omega (arith, more w.if-rank-plan.true, w.larger-longest.ensures, w.longest-is)
+        | else-rank-plan w ↦ omega (arith, same w.if-rank-plan.false, w.longest-is)
       ],
     )
 

@@ -280,8 +280,8 @@ loop_again c =
     let took = d.start-s.result + (X d).args.q - l.k * (tb (X d)).T (X d).args.i in
     let e : c.if-largest-took.largest ≡ max l.largest took =
     elim c.if-largest-took.branch [
-      then-largest-took w ↦ omega (arith, w.if-largest-took.true, w.largest-is)
-    | else-largest-took w ↦ omega (arith, w.if-largest-took.false, w.largest-is)
+      | then-largest-took w ↦ omega (arith, w.if-largest-took.true, w.largest-is)
+      | else-largest-took w ↦ omega (arith, w.if-largest-took.false, w.largest-is)
     ] in (
       rw e (passed_more l.invariant.0 (starts d) (job d)),
       omega (arith, j.loop-k-test.true),

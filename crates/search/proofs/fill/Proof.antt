@@ -472,8 +472,8 @@ tested c =
     let a = c.before in
     let x = I (J a) in
     elim c.if-due-s.branch [
-      then-due-s m ↦ inr (m.passes-is, trial_misses (working x) a.loop-s.invariant m.if-due-s.true)
-    | else-due-s+then-next-s+then-period-released m ↦ inl (
+      | then-due-s m ↦ inr (m.passes-is, trial_misses (working x) a.loop-s.invariant m.if-due-s.true)
+      | else-due-s+then-next-s+then-period-released m ↦ inl (
         m.passes-is,
         subst (Passes x) (sym (m.largest-is ∙ m.larger-largest.ensures))
             (trial_passes (working x) a.loop-s.invariant (sym m.if-next-s.true ∙ m.start_side-next.ensures ∙ turned a)
@@ -487,9 +487,9 @@ outcome : (c : Under tie.Joined-passes) → Narrower (I (J c.before.before)) c.i
 outcome c =
     let x = I (J c.before.before) in
     elim c.if-passes.branch [
-      then-passes m ↦ rw (m.low-is, m.high-is, m.time-is)
+      | then-passes m ↦ rw (m.low-is, m.high-is, m.time-is)
           (⊎_elim (λ t. lowered x t.1) (λ t. not_both c.before.if-due-s.passes t.0 m.if-passes.true) (tested c.before))
-    | else-passes m ↦ rw (m.low-is, m.high-is, m.time-is)
+      | else-passes m ↦ rw (m.low-is, m.high-is, m.time-is)
           (⊎_elim (λ t. not_both c.before.if-due-s.passes m.if-passes.false t.0) (λ t. raised x t.1) (tested c.before))
     ]
 

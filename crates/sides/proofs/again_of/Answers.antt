@@ -7,7 +7,6 @@ use Rattle.marks.proofs.Where.{where_none, where_apart, where_more, where_same}
 use Rattle.test.specs.Test.{horizon}
 use Rattle.sides.specs.inside.Asks.{many, repeated}
 use Rattle.sides.proofs.Small.{product_small}
-
 use Rattle.sides.proofs.again_of.Goals as goal
 use Rattle.sides.proofs.again_of.Goals.{then-s-asks-gt0, else-s-asks-gt0}
 
@@ -27,9 +26,9 @@ loop-i-preserved c =
     let P = repeated c.args.asks.now c.args.t in (
       omega (arith, c.loop-i-test.true),
       elim c.if-s-asks-gt0.branch [
-        then-s-asks-gt0 w ↦
+        | then-s-asks-gt0 w ↦
             rw w.set-is (where_more P _ _ c.loop-i.invariant.1 _ (lt-ltb _ _ w.if-s-asks-gt0.true) w.more-set.ensures)
-      | else-s-asks-gt0 w ↦ rw w.set-is (where_same P _ _ c.loop-i.invariant.1 (le-ltb _ _ w.if-s-asks-gt0.false))
+        | else-s-asks-gt0 w ↦ rw w.set-is (where_same P _ _ c.loop-i.invariant.1 (le-ltb _ _ w.if-s-asks-gt0.false))
       ],
     )
 

@@ -2,7 +2,6 @@
 use Prim.Native.Nat.{◌≤◌, ◌-◌}
 use Rattle.marks.specs.inside.Marks.{Where}
 use Rattle.sides.specs.inside.Asks.{many, repeated}
-
 use Rattle.sides.proofs.again_of.Given as goal
 
 abbrev pub invariant-loop-i : goal.invariant-loop-i

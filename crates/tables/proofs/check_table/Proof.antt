@@ -34,4 +34,4 @@ returns_5 c =
 
 pub check_table_spec : {M : Type 1} → statement M
 check_table_spec = tie.close (tie.spec (λ c. search rules) (λ c. search rules) (λ c. search rules)
-    (λ c. search rules) (λ c . search rules) (λ c. search rules) returns_4 returns_5)
+    (λ c. search rules) (λ c. search rules) (λ c. search rules) returns_4 returns_5)

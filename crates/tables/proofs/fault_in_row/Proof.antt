@@ -134,7 +134,7 @@ returns_6 c =
 pub fault_in_row_spec : {M : Type 1} → statement M
 fault_in_row_spec = tie.close (tie.spec (λ c. search rules) (λ c. search rules) (λ c. search rules)
     (λ c. search rules) (λ c. search rules) (λ c. search rules) (λ c. search rules) (λ c. search rules)
-    (λ c. search rules) (λ c . search rules) returns (λ c. search rules) (λ c. search rules) (λ c. search rules)
-    (λ c . search rules) (λ c. search rules) returns_2 (λ c. search rules) (λ c. search rules) (λ c. search rules)
-    (λ c . search rules) (λ c. search rules) returns_3 (λ c . search rules) (λ c. search rules) returns_4
-    (λ c . search rules) (λ c. search rules) returns_5 (λ c. search rules) returns_6)
+    (λ c. search rules) (λ c. search rules) returns (λ c. search rules) (λ c. search rules) (λ c. search rules)
+    (λ c. search rules) (λ c. search rules) returns_2 (λ c. search rules) (λ c. search rules) (λ c. search rules)
+    (λ c. search rules) (λ c. search rules) returns_3 (λ c. search rules) (λ c. search rules) returns_4
+    (λ c. search rules) (λ c. search rules) returns_5 (λ c. search rules) returns_6)

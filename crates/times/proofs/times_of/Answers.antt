@@ -54,7 +54,7 @@ module _ (c : After-asks_of-all) where
 -- whether there is a busy period
 found : (c : After-busy_period-busy) → Sound (table_in c.rows_of-rows.result (table_of c.args.table.now).n) →
     Asks (table_in c.rows_of-rows.result (table_of c.args.table.now).n)
-        (take (ask_width * (table_of c.args.table.now).n) c.asks_of-all.result) →
+    (take (ask_width * (table_of c.args.table.now).n) c.asks_of-all.result) →
     BusyFound (table_in c.rows_of-rows.result (table_of c.args.table.now).n) c.busy_period-busy.result
 found c sound asks = busy_found sound asks c.busy_period-busy.result c.busy_period-busy.ensures
 
