@@ -40,7 +40,8 @@ sheets: program
 	@outside/sheets.sh examples/sheets $(OUTSIDE)/sheets $(X86_RUN) target/bin/planner
 	@outside/commands.sh $(OUTSIDE)/commands
 
-# The archive that licensees link, target/staticlib/libtempletbark.a: the kit names it after its crate.
+# The archive that licensees link, target/staticlib/libtempletbark.a: a copy of what the kit makes of the crate
+# templetbark_c.
 lib: kit
 	@outside/prove.sh templetbark_c $(ARCHIVE)
 

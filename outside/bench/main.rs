@@ -13,7 +13,7 @@ fn main() -> std::io::Result<()> {
     let words: Vec<String> = std::env::args().skip(1).collect();
     let [run, folder] = &words[..] else { return Err(std::io::Error::other("bench 'RUN WORDS' FOLDER")) };
     let mut versions = Versions::start(run, folder)?;
-    report::heading(run.contains("qemu"));
+    report::heading();
     report::realistic_plans(&mut versions, false)?;
     report::realistic_plans(&mut versions, true)?;
     report::hard_cases(&mut versions)?;

@@ -12,14 +12,8 @@ const UTILISATIONS: [f64; 4] = [0.5, 0.7, 0.9, 0.98];
 const MOST: u32 = MOST_JOBS as u32;
 const JOBS: [u32; 5] = [MOST / 16, MOST / 8, MOST / 4, MOST / 2, MOST];
 
-pub fn heading(emulated: bool) {
-    if emulated {
-        println!(
-            "Processor time under the kit's x86-64 emulator: the ratios compare code, the times are not a box's.\n"
-        );
-    } else {
-        println!("Processor time on x86-64.\n");
-    }
+pub fn heading() {
+    println!("Processor time on x86-64.\n");
 }
 
 fn microseconds(nanoseconds: f64) -> String {

@@ -3,7 +3,7 @@
 use Rattle.std.proofs.Common.{◌≡◌, ℕ, ◌+◌, ◌≤◌, ◌<◌, List, [], ◌++◌, arith, length, take, drop, sym, ap, ◌∙◌, refl, subst, drop_at, length-take-le, take_all}
 use Rattle.std.specs.declared.option.Option.{Option}
 use Rattle.std.specs.declared.option.Option.TheVariants.{None, Some}
-use Rattle.std.specs.Io.KnownBytes.{Consumes, Appends, IsAtEnd}
+use Rattle.std.specs.Io.KnownBytes.{Consumes, Appends, Keeps, IsAtEnd}
 use Rattle.std.proofs.lemmas.Slice.{take-put_mid_below}
 use Rattle.std.proofs.lemmas.List.{append_assoc, append-nil}
 use borrow.Rule.Slice.PartMut.{put_mid, post_of}
@@ -14,6 +14,11 @@ use Rattle.program.specs.Reply.{Page}
 use Rattle.program.specs.Run.{WritesPage}
 use Rattle.sheet.proofs.Fronts.{longest_sheet}
 use Rattle.program.proofs.Pages.{page_cut}
+
+-- what nothing is written to stays as it was
+pub keeps_same : (a : Option (List ℕ)) → Keeps a a
+keeps_same None = tt
+keeps_same (Some x) = refl
 
 pub consumes_nil : (a : Option (List ℕ)) → Consumes a a []
 consumes_nil None = tt

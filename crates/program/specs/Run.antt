@@ -1,16 +1,20 @@
 -- What a run of the program writes: "prints the plan, or a single line with the refusal".
 use Rattle.std.specs.Prelude.{ℕ, List, None, Some, ⊤}
 use Rattle.std.specs.declared.option.Option.{Option}
-use Rattle.std.specs.Io.KnownBytes.{Appends}
+use Rattle.std.specs.Io.KnownBytes.{Appends, Keeps}
 use Rattle.program.specs.declared.Outcome.{Outcome}
 use Rattle.program.specs.declared.Outcome.TheVariants.{Written, Unread, Unwritten}
 use Rattle.program.specs.Reply.{Page}
 
--- Where the bytes of the input are known and the page was written, the output has grown by the page of all of them: it
--- has the input's bytes left, the output's bytes before and after, and what the run came to. Of a run that failed nothing
--- is said.
+-- where the bytes of the input are known the output has grown by the page of all of them
+abbrev pub GrowsByPage : Option (List ℕ) → Option (List ℕ) → Option (List ℕ) → Type 0
+GrowsByPage None old new = ⊤
+GrowsByPage (Some text) old new = (page : List ℕ) × Page text page × Appends old new page
+
+-- Of the input's bytes left, the output's bytes before and after, and what the run came to: where the page was written
+-- the output has grown by it; where the input could not be read nothing is written; how much of the page a write that
+-- failed left behind is not said.
 abbrev pub WritesPage : Option (List ℕ) → Option (List ℕ) → Option (List ℕ) → Outcome → Type 0
-WritesPage None old new r = ⊤
-WritesPage (Some text) old new Written = (page : List ℕ) × Page text page × Appends old new page
-WritesPage (Some text) old new Unread = ⊤
-WritesPage (Some text) old new Unwritten = ⊤
+WritesPage text old new Written = GrowsByPage text old new
+WritesPage text old new Unread = Keeps old new
+WritesPage text old new Unwritten = ⊤
