@@ -4,19 +4,18 @@ use mathlib.Core.Path.{◌≡◌, refl, sym, ap, ◌∙◌}
 use mathlib.Core.Bool.{Bool, true, false, ◌&&◌, and-true}
 use mathlib.Core.List.{List}
 use native.Mathlib.Omega.{arith}
-use native.Mathlib.Nat.{mul-le-mul, mul-le-mul_left, div-mul-le_self, div-eq_of_lt}
+use native.Mathlib.Nat.{mul-le-mul, div-eq_of_lt}
 use lib.Dec.{ltb}
-use lib.ListN.{length, get_or, take}
+use lib.ListN.{length, take}
 use lib.Seq.{length-take-le, get_or-take}
 use borrow.Author.Tests.{lt-ltb, le-ltb}
 use Rattle.counting.specs.Sum.{given, sum}
-use Rattle.counting.proofs.Cases.{by_bool, by_le}
-use Rattle.counting.proofs.Sum.{sum_add, sum_ext, sum_ge, sum_zero, given_yes}
+use Rattle.counting.proofs.Cases.{by_le}
+use Rattle.counting.proofs.Sum.{sum_add, sum_ext}
 use Rattle.tables.specs.Table.{Table, Sound, most, most_rows}
 use Rattle.test.specs.Test.{horizon, upto, load, every_row}
 use Rattle.sides.specs.declared.ask.Ask.{Ask}
-use Rattle.sides.specs.inside.Inverse.{scale}
-use Rattle.sides.specs.inside.Asks.{nothing, row, run, inverse, part_of, again, Asks}
+use Rattle.sides.specs.inside.Asks.{nothing, row, run, part_of, again, Asks}
 use Rattle.sides.specs.inside.Level.{runs_of, later, Packed}
 use Rattle.sides.proofs.Inverse.{by_inverse}
 use Rattle.sides.proofs.Level.{Asking}

@@ -1,6 +1,6 @@
 -- Laws of a level from which a row is left out, the last one taking its place: what is summed over the rows that stay
 -- is what is summed over the others; and put back, the level is as it was.
-use Prim.Native.Nat.{ℕ, suc, ◌+◌, ◌-◌, ◌*◌, ◌≤◌, ◌<◌}
+use Prim.Native.Nat.{ℕ, suc, ◌+◌, ◌-◌, ◌≤◌, ◌<◌}
 use mathlib.Core.Path.{◌≡◌, refl, sym, ap, ◌∙◌, fun_ext}
 use mathlib.Core.Bool.{Bool, true, false}
 use mathlib.Core.List.{List}
@@ -139,12 +139,12 @@ module _ (set : ℕ) {asks before level : List Ask} {m : ℕ} (w : Packed asks (
   place_within None h = tt
 
   pub left_whole : (at : Option ℕ) (left : List Ask) (r : ℕ) → LeftOut at level m left r → length left ≡ most_rows
-  left_whole (Some q) left r o = ap length o.1 ∙ length-set level q _ ∙ whole
-  left_whole None left r o = ap length o.1 ∙ whole
+  left_whole (Some q) _ _ o = ap length o.1 ∙ length-set level q _ ∙ whole
+  left_whole None _ _ o = ap length o.1 ∙ whole
 
   pub left_few : (at : Option ℕ) (left : List Ask) (r : ℕ) → LeftOut at level m left r → r ≤ most_rows
-  left_few (Some q) left r o = omega (arith, o.0, w.few)
-  left_few None left r o = omega (arith, o.0, w.few)
+  left_few (Some q) _ _ o = omega (arith, o.0, w.few)
+  left_few None _ _ o = omega (arith, o.0, w.few)
 
   absent : marked set i ≡ false → marked set ≡ without (marked set) i
   absent e = fun_ext (λ j. is_without (marked set) i j (marked set j) (λ q. ap (marked set) q ∙ e) (λ _. refl))
@@ -152,11 +152,11 @@ module _ (set : ℕ) {asks before level : List Ask} {m : ℕ} (w : Packed asks (
   -- the rows that stay are the others
   pub left_others : (at : Option ℕ) (left : List Ask) (r : ℕ) → Placed set i at → LeftOut at level m left r →
       Holding asks (without (marked set) i) left r
-  left_others (Some q) left r h o = rw (o.1, o.0, h.1) (left_holding w whole i l h.0)
-  left_others None left r h o = rw (o.1, o.0, ← absent h) (packed_holding w)
+  left_others (Some q) _ _ h o = rw (o.1, o.0, h.1) (left_holding w whole i l h.0)
+  left_others None _ _ h o = rw (o.1, o.0, ← absent h) (packed_holding w)
 
   -- put back, the level is as it was
   pub back_as_was : (at : Option ℕ) (left back : List Ask) (r : ℕ) → Placed set i at → LeftOut at level m left r →
       PutBack at (row asks i) left back → back ≡ level
-  back_as_was (Some q) left back r h o b = b ∙ rw (o.1, h.1) (back_same w whole i l h.0)
-  back_as_was None left back r h o b = b ∙ o.1
+  back_as_was (Some q) _ _ _ h o b = b ∙ rw (o.1, h.1) (back_same w whole i l h.0)
+  back_as_was None _ _ _ h o b = b ∙ o.1

@@ -1,6 +1,6 @@
 -- Any two answers that the promises of `asks_of`, `level_of`, `leave_out`, `put_back`, `busy_period` and
 -- `active_period` allow are equal; the promises of the right sides are equations, that of `again_of` is about marks.
-use Prim.Native.Nat.{ℕ, ◌*◌, ◌+◌, ◌≤◌, ◌<◌}
+use Prim.Native.Nat.{ℕ, ◌<◌}
 use mathlib.Core.Path.{◌≡◌, refl, sym, ap, ◌∙◌}
 use mathlib.Core.Bool.{Bool}
 use mathlib.Core.List.{List}
@@ -8,7 +8,7 @@ use native.Mathlib.Omega.{arith}
 use lib.ListN.{length}
 use lib.Seq.{ext_get_or, get_or-take}
 use Rattle.std.specs.Prelude.{Option, Some, None}
-use Rattle.counting.proofs.Cases.{by_le, by_bool}
+use Rattle.counting.proofs.Cases.{by_le}
 use Rattle.counting.proofs.Least.{least_unique}
 use Rattle.tables.specs.Table.{Table}
 use Rattle.sides.specs.declared.ask.Ask.{Ask}

@@ -5,6 +5,8 @@ ghost use Rattle.tables.specs.Table.{most};
 ghost use Rattle.test.specs.Test.{horizon};
 ghost use Rattle.sides.specs.inside.Inverse.{inverse_of};
 
+use tables::Row;
+
 // 2^40, of which an inverse is a fraction: s times the inverse of T over it is s / T, for s and T up to 1,000,000.
 const SCALE: u64 = 1099511627776;
 
@@ -22,18 +24,18 @@ impl Ask {
     // What stands past the last row.
     pub const NOTHING: Ask = Ask { run: 0, inverse: 0 };
 
-    pub fn of(run: u32, spacing: u32) -> Ask
-        requires { (run ≤ most) × (1 ≤ spacing) }
-        ensures { (result.run ≡ run) × (result.inverse ≡ inverse_of spacing) }
+    pub(crate) fn of(row: Row) -> Ask
+        requires { (row.c ≤ most) × (1 ≤ row.t) }
+        ensures { (result.run ≡ row.c) × (result.inverse ≡ inverse_of row.t) }
     {
         Ask {
-            run: run as u64,
-            inverse: SCALE / (spacing as u64) + 1,
+            run: row.c as u64,
+            inverse: SCALE / (row.t as u64) + 1,
         }
     }
 
     // How often the row is released after the first tick, up to s.
-    pub fn releases(self, s: u64) -> u64
+    pub(crate) fn releases(self, s: u64) -> u64
         requires { s ≤ horizon }
         ensures { result ≡ releases self s }
     {
@@ -41,7 +43,7 @@ impl Ask {
     }
 
     // What it asks for by those releases.
-    pub fn part(self, s: u64) -> u64
+    pub(crate) fn part(self, s: u64) -> u64
         requires { s ≤ horizon }
         ensures { result ≡ part_of self s }
     {

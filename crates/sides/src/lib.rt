@@ -2,28 +2,27 @@
 // tests no marks and divides by nothing.
 #![tactic(auto)]
 
-pub mod ask;
+mod ask;
 pub mod periods;
 
 ghost use Rattle.std.specs.Prelude.{◌≡◌, true, ℕ, ◌+◌, ◌-◌, ◌*◌, ◌≤◌, ◌<◌, length, IfSome};
 ghost use Rattle.marks.specs.inside.Marks.{marked, Where};
-ghost use Rattle.tables.specs.Table.{most, most_rows, table_of};
-ghost use Rattle.tables.specs.inside.Rows.{SoundSlice};
+ghost use Rattle.tables.specs.Table.{most, most_rows};
+ghost use Rattle.tables.specs.inside.Rows.{table_in};
 ghost use Rattle.test.specs.Test.{horizon};
 ghost use Rattle.sides.specs.inside.Asks.{repeated, AsksFront};
 ghost use Rattle.sides.specs.inside.Level.{runs_of, later, busy_of, active_of, start_of, Packed, LeftOut, PutBack};
 
-use ask::Ask;
-use tables::{MOST_ROWS, ROW_WIDTH, Row};
+pub use ask::Ask;
+use tables::{MOST_ROWS, Row, Tasks};
 
 // What each row of the table asks with: made once.
-pub fn asks_of(table: &[u32]) -> [Ask; MOST_ROWS]
-    requires { SoundSlice table.now }
-    ensures { AsksFront (table_of table.now) result }
+pub fn asks_of(tasks: &Tasks) -> [Ask; MOST_ROWS]
+    ensures { AsksFront (table_in tasks.now.rows tasks.now.n) result }
 {
     let mut asks = [Ask::NOTHING; MOST_ROWS];
-    for i in 0..table.len() / ROW_WIDTH {
-        asks[i] = Ask::of(table[ROW_WIDTH * i], table[ROW_WIDTH * i + 2]);
+    for (i, row) in tasks.rows[..tasks.n].iter().enumerate() {
+        asks[i] = Ask::of(*row);
     }
     asks
 }

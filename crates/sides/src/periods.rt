@@ -2,9 +2,9 @@
 ghost use Rattle.std.specs.Prelude.{◌≤◌, length, ℕ};
 ghost use Rattle.tables.specs.Table.{most_rows};
 ghost use Rattle.sides.specs.inside.Level.{active_of, busy_of};
-ghost use Rattle.sides.specs.inside.Found.{Fixed, FixedWithin, BusyOf};
+ghost use Rattle.sides.specs.inside.Found.{Fixed, FixedWithin, Climbs, BusyOf};
 
-use crate::ask::Ask;
+use crate::Ask;
 
 // The longest busy period that is not refused.
 const HORIZON: u64 = 1000000;
@@ -29,18 +29,26 @@ pub fn busy_period(level: &[Ask]) -> Option<u64>
     }
 }
 
+// The least fixed point of a right side, climbed to from below.
+pub fn climb<F: Fn(u32) -> u32>(side: F, low: u32) -> u32
+    requires { (right : ℕ → ℕ) × (lo : ℕ) × Climbs (F.pre side) (F.post side) right lo low }
+    ensures { (right : ℕ → ℕ) (lo : ℕ) → Climbs (F.pre side) (F.post side) right lo low → Fixed right lo result }
+{
+    let mut t = low;
+    loop {
+        let next = side(t);
+        if next == t {
+            break t;
+        }
+        t = next;
+    }
+}
+
 // The active period of a row, climbed to from what is asked for in the first tick: the level holds the row and those
 // above it.
 pub fn active_period(level: &[Ask], first: u32) -> u32
     requires { (length level.now ≤ most_rows) × FixedWithin (active_of level.now first) 1 first }
     ensures { Fixed (active_of level.now first) 1 result }
 {
-    let mut t = first;
-    loop {
-        let next = crate::active_side(level, first, t);
-        if next == t {
-            break t;
-        }
-        t = next;
-    }
+    climb(|t| crate::active_side(level, first, t), first)
 }

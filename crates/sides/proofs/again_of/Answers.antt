@@ -1,12 +1,11 @@
 -- `again_of` meets its contract: the set marks the rows passed that are released again.
-use Prim.Native.Nat.{◌-◌}
-use mathlib.Core.Path.{◌≡◌, ap, ◌∙◌}
+use mathlib.Core.Path.{◌≡◌, ◌∙◌}
 use native.Mathlib.Omega.{arith}
 use lib.Dec.{ltb}
 use lib.ListN.{length}
 use borrow.Author.Tests.{lt-ltb, le-ltb}
 use Rattle.marks.proofs.Where.{where_none, where_apart, where_more, where_same}
-use Rattle.sides.specs.inside.Asks.{releases, repeated}
+use Rattle.sides.specs.inside.Asks.{repeated}
 use Rattle.sides.proofs.Rows.{read_is}
 use Rattle.sides.proofs.again_of.Goals as goal
 use Rattle.sides.proofs.again_of.Goals.{then-releases-gt0, else-releases-gt0}

@@ -19,6 +19,14 @@ pub record FixedWithin (side : ℕ → ℕ) (lo low : ℕ) : Type 0 where
   pub from : lo ≤ low
   pub under : low ≤ point
 
+-- a right side as a closure computes it, where it may be called and what it may answer: it never falls, and has such a
+-- value
+pub record Climbs (pre : ℕ → Type 0) (post : ℕ → ℕ → Type 0) (side : ℕ → ℕ) (lo low : ℕ) : Type 0 where
+  pub rises : (s t : ℕ) → s ≤ t → side s ≤ side t
+  pub callable : (t : ℕ) → lo ≤ t → t ≤ horizon → side t ≤ horizon → pre t
+  pub answers : (t r : ℕ) → post t r → r ≡ side t
+  pub within : FixedWithin side lo low
+
 -- the busy period of a level, or that there is none up to H
 abbrev pub BusyOf : List Ask → Option ℕ → Type 0
 BusyOf level (Some t) = Fixed (busy_of level) 1 t × (t ≤ horizon)

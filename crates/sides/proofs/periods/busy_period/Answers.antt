@@ -34,6 +34,7 @@ pub returns-then-next-gt-HORIZON : goal.returns-then-next-gt-HORIZON
 returns-then-next-gt-HORIZON c t x h = omega (arith, c.loop-next.invariant.under t x.low x.holds, c.if-next-gt-HORIZON.true)
 
 pub returns-then-next-t : goal.returns-then-next-t
-returns-then-next-t c =
-    (climbing_stops c.loop-next.invariant (sym c.if-next-t.true ∙ c.busy_side-next.ensures),
-    omega (arith, c.if-next-gt-HORIZON.false))
+returns-then-next-t c = (
+  climbing_stops c.loop-next.invariant (sym c.if-next-t.true ∙ c.busy_side-next.ensures),
+  omega (arith, c.if-next-gt-HORIZON.false),
+)
