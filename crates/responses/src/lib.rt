@@ -10,7 +10,7 @@ ghost use Rattle.test.specs.Test.{Response};
 ghost use Rattle.sides.specs.inside.Asks.{ask_width, many, Asks};
 ghost use Rattle.sides.specs.inside.Level.{start_of, Small};
 ghost use Rattle.sides.specs.inside.Found.{Fixed, FixedWithin};
-ghost use Rattle.responses.specs.inside.Asked.{Ranked, Above, Blocks, Blocking, Planned, Responses};
+ghost use Rattle.responses.specs.inside.Asked.{placed, Ranked, Above, Blocks, Blocking, Planned, Responses};
 
 use sides::ASK_WIDTH;
 use tables::{MOST_ROWS, PLAN_WIDTH, Row};
@@ -74,18 +74,15 @@ fn response(
 }
 
 // The rows of higher rank.
-fn above_of(plan: &[u32], n: usize, rank: u32) -> u32
-    requires { (n ≤ most_rows) × (length plan.now ≡ plan_width * n) }
-    ensures { Above (plan_of plan.now) n rank result }
+fn above_of(plan: &[u32], rank: u32) -> u32
+    requires { placed plan.now ≤ most_rows }
+    ensures { Above (plan_of plan.now) (placed plan.now) rank result }
 {
     let mut set: u32 = 0;
-    let mut i: usize = 0;
-    while i < n {
-        let at = PLAN_WIDTH * i;
-        if plan[at] < rank {
+    for (i, row) in plan.chunks_exact(PLAN_WIDTH).enumerate() {
+        if row[0] < rank {
             set = marks::more(set, i as u32);
         }
-        i += 1;
     }
     set
 }
@@ -95,32 +92,25 @@ fn blocks_of(rows: [Row; 32], n: usize, plan: &[u32]) -> [u32; 32]
     requires { (n ≤ most_rows) × (length plan.now ≡ plan_width * n) }
     ensures { Blocks (table_in rows n) (plan_of plan.now) result }
 {
-    let mut blocks: [u32; 32] = [0; 32];
-    let mut i: usize = 0;
-    while i < n {
-        blocks[i] = tables::longer(rows[i], plan[PLAN_WIDTH * i + 1]);
-        i += 1;
+    let mut blocks = [0u32; MOST_ROWS];
+    for (i, row) in plan.chunks_exact(PLAN_WIDTH).enumerate() {
+        blocks[i] = tables::longer(rows[i], row[1]);
     }
     blocks
 }
 
 // The blocking at a rank: the most that a row below blocks with, less 1; 0 where there is nothing below.
-fn blocking_of(plan: &[u32], n: usize, blocks: &[u32; 32], rank: u32) -> u32
-    requires { (n ≤ most_rows) × (length plan.now ≡ plan_width * n) }
-    ensures { Blocking (plan_of plan.now) n blocks.now rank result }
+fn blocking_of(plan: &[u32], blocks: &[u32; 32], rank: u32) -> u32
+    requires { placed plan.now ≤ most_rows }
+    ensures { Blocking (plan_of plan.now) (placed plan.now) blocks.now rank result }
 {
     let mut longest: u32 = 0;
-    let mut i: usize = 0;
-    while i < n {
-        if rank < plan[PLAN_WIDTH * i] {
-            longest = counting::larger(longest, blocks[i]);
+    for (i, row) in plan.chunks_exact(PLAN_WIDTH).enumerate() {
+        if rank < row[0] {
+            longest = longest.max(blocks[i]);
         }
-        i += 1;
     }
-    if longest == 0 {
-        return 0;
-    }
-    longest - 1
+    longest.saturating_sub(1)
 }
 
 // The response of each row, in table order.
@@ -129,17 +119,13 @@ pub fn responses(rows: [Row; 32], n: usize, asks: &[u64], plan: &[u32]) -> [u32;
     ensures { Responses (table_in rows n) (plan_of plan.now) result }
 {
     let blocks = blocks_of(rows, n, plan);
-    let mut times: [u32; 32] = [0; 32];
+    let mut times = [0u32; MOST_ROWS];
     let mut level = [0u64; ASK_WIDTH * MOST_ROWS];
-    let mut i: usize = 0;
-    while i < n {
-        let at = PLAN_WIDTH * i;
-        let rank = plan[at];
-        let q = plan[at + 1];
-        let above = above_of(plan, n, rank);
-        let b = blocking_of(plan, n, &blocks, rank);
-        times[i] = response(rows, asks, &mut level, above, b, i, q);
-        i += 1;
+    for (i, row) in plan.chunks_exact(PLAN_WIDTH).enumerate() {
+        let rank = row[0];
+        let above = above_of(plan, rank);
+        let b = blocking_of(plan, &blocks, rank);
+        times[i] = response(rows, asks, &mut level, above, b, i, row[1]);
     }
     times
 }

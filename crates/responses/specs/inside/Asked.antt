@@ -1,5 +1,5 @@
 -- What the functions of the response times ask for and answer.
-use Rattle.std.specs.Prelude.{ℕ, pred, ◌*◌, ◌≤◌, ◌<◌, ◌≡◌, true, false, List, length, get_or}
+use Rattle.std.specs.Prelude.{ℕ, pred, ◌*◌, ◌/◌, ◌≤◌, ◌<◌, ◌≡◌, true, false, List, length, get_or}
 use Rattle.counting.specs.Sum.{given, largest}
 use Rattle.marks.specs.inside.Marks.{marked, Where}
 use Rattle.tables.specs.Table.{Table, Sound, most_rows}
@@ -20,6 +20,10 @@ pub record Ranked (tb : Table) (asks : List ℕ) (set b i q : ℕ) : Type 0 wher
   pub period : ℕ
   pub active : Active tb (marked set) b i period
   pub within : period ≤ horizon
+
+-- how many rows stand in a plan
+abbrev pub placed : List ℕ → ℕ
+placed ps = length ps / plan_width
 
 -- the set marks the rows below n of higher rank than r, and no others
 abbrev pub Above : Plan → ℕ → ℕ → ℕ → Type 0
