@@ -7,20 +7,20 @@ use Rattle.std.specs.Slice.Iter.{chunks_exact_rest, chunks_exact_size, chunks_ex
 use Rattle.std.specs.declared.iter.Enumerate.{Enumerate}
 use Rattle.std.specs.Iterator.Adapters.{enumerate_source, enumerate_count, enumerate_steps}
 use Rattle.tables.specs.Plan.{plan_width}
-use Rattle.responses.specs.inside.Asked.{placed}
+use Rattle.responses.specs.inside.Asked.{plan_rows}
 
 -- k of the rows of the plan are passed
 pub record Walked (plan : List ℕ) (k : ℕ) (s : ChunksExact ℕ) : Type 0 where
   pub size : chunks_exact_size s ≡ plan_width
   pub rest : chunks_exact_rest s ≡ drop (plan_width * k) plan
-  pub inside : k ≤ placed plan
+  pub inside : k ≤ plan_rows plan
 
 -- row k of the plan is in hand
 pub record InHand (plan : List ℕ) (k : ℕ) (row : List ℕ) : Type 0 where
   pub width : length row ≡ plan_width
   pub rank : get_or row 0 0 ≡ get_or plan (plan_width * k) 0
   pub len : get_or row 1 0 ≡ get_or plan (plan_width * k + 1) 0
-  pub inside : k < placed plan
+  pub inside : k < plan_rows plan
 
 module _ {plan : List ℕ} {k : ℕ} {s : ChunksExact ℕ} (w : Walked plan k s) where
   at_place : (x rest : List ℕ) (j : ℕ) → chunks_exact_rest s ≡ x ++ rest → j < length x →
@@ -36,7 +36,7 @@ module _ {plan : List ℕ} {k : ℕ} {s : ChunksExact ℕ} (w : Walked plan k s)
       let two = e.1.1 in
       let long : length (drop (plan_width * k) plan) ≡ length x.now + length (chunks_exact_rest t) =
       ap length (sym w.rest ∙ cut) ∙ length-append x.now (chunks_exact_rest t) in
-      let fits : k < placed plan = omega (arith, long, length-drop (plan_width * k) plan, two, w.size) in
+      let fits : k < plan_rows plan = omega (arith, long, length-drop (plan_width * k) plan, two, w.size) in
       let next : plan_width * k + plan_width ≡ plan_width * (k + 1) = omega arith in (
         record {
           width = two ∙ w.size;
@@ -55,7 +55,7 @@ module _ {plan : List ℕ} {k : ℕ} {s : ChunksExact ℕ} (w : Walked plan k s)
         },
       )
 
-  pub walk_ends : (t : ChunksExact ℕ) → chunks_exact_steps s None t → k ≡ placed plan
+  pub walk_ends : (t : ChunksExact ℕ) → chunks_exact_steps s None t → k ≡ plan_rows plan
   walk_ends t e = omega (arith, ap length w.rest, length-drop (plan_width * k) plan, e.1.0, w.size, w.inside)
 
 -- the same, the rows numbered from 0

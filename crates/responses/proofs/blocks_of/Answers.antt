@@ -22,11 +22,11 @@ loop-i-init c =
 pub loop-i-preserved : goal.loop-i-preserved
 loop-i-preserved c =
     let h = turn c.in-Some.row c.loop-i.invariant.0 c.in-Some.ensures.steps in
-    let tb = table_in c.args.rows c.args.n in
+    let tb = table_in c.args.tasks.now.rows c.args.tasks.now.n in
     let i = c.in-Some.i in
     let fits : i < most_rows = omega (arith, h.holds.inside) in
     let here : c.longer.result ≡ blocks tb (plan_of c.args.plan.now) i =
-    c.longer.ensures ∙ sym (longer_in_lem c.args.rows c.args.n i _) ∙ ap (longer tb i) h.holds.len in (
+    c.longer.ensures ∙ sym (longer_in_lem c.args.tasks.now.rows c.args.tasks.now.n i _) ∙ ap (longer tb i) h.holds.len in (
       h.goes,
       rw (← h.next) (column_more (λ j b. b ≡ blocks tb (plan_of c.args.plan.now) j) (rw h.is at c.loop-i.invariant.1) fits here),
     )
@@ -34,5 +34,5 @@ loop-i-preserved c =
 pub returns : goal.returns
 returns c =
     let n = walk_ends c.loop-i.invariant.0 _ c.in-None.ensures.steps.0 in
-    let e : c.loop-i.i-iterator.count ≡ c.args.n = omega arith in
+    let e : c.loop-i.i-iterator.count ≡ c.args.tasks.now.n = omega arith in
     rw e at c.loop-i.invariant.1

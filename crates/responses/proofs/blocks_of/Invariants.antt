@@ -10,4 +10,4 @@ use Rattle.responses.proofs.blocks_of.Given as goal
 abbrev pub invariant-loop-i : goal.invariant-loop-i
 invariant-loop-i l =
     Counted l.plan l.i-iterator
-    × Column l.i-iterator.count (λ i b. b ≡ blocks (table_in l.rows l.n) (plan_of l.plan) i) l.blocks
+    × Column l.i-iterator.count (λ i b. b ≡ blocks (table_in l.tasks.rows l.tasks.n) (plan_of l.plan) i) l.blocks

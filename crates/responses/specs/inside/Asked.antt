@@ -22,8 +22,8 @@ pub record Ranked (tb : Table) (asks : List ℕ) (set b i q : ℕ) : Type 0 wher
   pub within : period ≤ horizon
 
 -- how many rows stand in a plan
-abbrev pub placed : List ℕ → ℕ
-placed ps = length ps / plan_width
+abbrev pub plan_rows : List ℕ → ℕ
+plan_rows ps = length ps / plan_width
 
 -- the set marks the rows below n of higher rank than r, and no others
 abbrev pub Above : Plan → ℕ → ℕ → ℕ → Type 0
