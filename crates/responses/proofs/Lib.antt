@@ -7,4 +7,5 @@ pub mod Largest
 pub mod Same
 pub mod Row
 pub mod Ranked
+pub mod Levels
 pub mod Unique
