@@ -1,12 +1,12 @@
 -- The two levels of a ranked row: of it and the rows above it, whose right side gives its active period; and of those
 -- above it alone, whose right sides give its starts.
-use Rattle.std.proofs.Common.{ℕ, suc, ◌+◌, ◌-◌, ◌*◌, ◌≤◌, ◌<◌, ◌≡◌, Bool, true, List, length, take, arith, sym, ap, subst, refl}
+use Rattle.std.proofs.Common.{ℕ, suc, ◌+◌, ◌-◌, ◌*◌, ◌≤◌, ◌<◌, ◌≡◌, Bool, true, List, length, take, Some, arith, sym, ap, subst, refl}
 use Rattle.counting.specs.Up.{up}
 use Rattle.counting.specs.Sum.{count, without}
 use Rattle.marks.specs.inside.Marks.{marked, More}
 use Rattle.tables.specs.Table.{Table, most_rows}
 use Rattle.test.specs.Test.{horizon, jobs, Start, active_side}
-use Rattle.sides.specs.inside.Asks.{ask_width, many}
+use Rattle.sides.specs.declared.ask.Ask.{Ask}
 use Rattle.sides.specs.inside.Level.{runs_of, active_of, start_of, Packed, LeftOut}
 use Rattle.sides.specs.inside.Found.{Fixed, FixedWithin}
 use Rattle.sides.proofs.Level.{Asking}
@@ -18,77 +18,77 @@ use Rattle.responses.proofs.Jobs.{Job, length_first, job_exists, job_base, base_
 use Rattle.responses.proofs.Ranked.{positive, rows, working, own, others, first, within, found}
 
 -- the m rows of the set `all`, which are row i and those of a set without it, stand at the front of the level
-pub record Levelled (asks : List ℕ) (set i all m : ℕ) (level : List ℕ) : Type 0 where
+pub record Levelled (asks : List Ask) (set i all m : ℕ) (level : List Ask) : Type 0 where
   pub more : More set i all
-  pub before : List ℕ
+  pub before : List Ask
   pub packed : Packed asks (marked all) before level m
-  pub whole : length level ≡ ask_width * most_rows
+  pub whole : length level ≡ most_rows
 
 -- the slice of a level that holds its rows
-abbrev pub front : List ℕ → ℕ → List ℕ
-front level m = take (ask_width * m) level
+abbrev pub front : List Ask → ℕ → List Ask
+front level m = take m level
 
-module _ {tb : Table} {asks : List ℕ} {set b i q : ℕ} (r : Ranked tb asks set b i q) where
+module _ {tb : Table} {asks : List Ask} {set b i q : ℕ} (r : Ranked tb asks set b i q) where
   -- the row and the rows above it
-  module _ {all m : ℕ} {level : List ℕ} (v : Levelled asks set i all m level) where
-      pub level_asks : Asking tb (marked all) (horizon + 1) (front level m)
-      level_asks =
-          asking_packed r.sound r.asked (omega arith) (all_again r.sound r.asked (marked all)) v.whole v.packed
+  module _ {all m : ℕ} {level : List Ask} (v : Levelled asks set i all m level) where
+    pub level_asks : Asking tb (marked all) (horizon + 1) (front level m)
+    level_asks =
+        asking_packed r.sound r.asked (omega arith) (all_again r.sound r.asked (marked all)) v.whole v.packed
 
-      -- the row has its place in it
-      row_inside : i < many asks
-      row_inside = omega (arith, r.row, rows r)
+    -- the row has its place in it
+    row_inside : i < length asks
+    row_inside = omega (arith, r.row, rows r)
 
-      pub place_fits : count (marked all) i < m
-      place_fits = place_inside v.packed v.whole i row_inside (own r all v.more)
+    pub place_fits : count (marked all) i < m
+    place_fits = place_inside v.packed v.whole i row_inside (own r all v.more)
 
-      -- what is asked for in the first tick
-      module _ {runs : ℕ} (e : runs ≡ runs_of (front level m)) where
-        pub first_is : b + runs ≡ active_side tb (marked set) b i 1
-        first_is =
-            first r all v.more level_asks (omega (arith, e, runs_packed r.sound r.asked v.whole v.packed))
+    -- what is asked for in the first tick
+    module _ {runs : ℕ} (e : runs ≡ runs_of (front level m)) where
+      pub first_is : b + runs ≡ active_side tb (marked set) b i 1
+      first_is =
+          first r all v.more level_asks (omega (arith, e, runs_packed r.sound r.asked v.whole v.packed))
 
-        pub period_within : FixedWithin (active_of (front level m) (b + runs)) 1 (b + runs)
-        period_within =
-            within r all v.more level_asks (omega (arith, e, runs_packed r.sound r.asked v.whole v.packed))
+      pub period_within : FixedWithin (active_of (front level m) (b + runs)) 1 (b + runs)
+      period_within =
+          within r all v.more level_asks (omega (arith, e, runs_packed r.sound r.asked v.whole v.packed))
 
-        pub period_is : {t : ℕ} → Fixed (active_of (front level m) (b + runs)) 1 t → t ≡ r.period
-        period_is =
-            found r all v.more level_asks (omega (arith, e, runs_packed r.sound r.asked v.whole v.packed))
+      pub period_is : {t : ℕ} → Fixed (active_of (front level m) (b + runs)) 1 t → t ≡ r.period
+      period_is =
+          found r all v.more level_asks (omega (arith, e, runs_packed r.sound r.asked v.whole v.packed))
 
-        -- and how many jobs it has
-        pub jobs_are : {t n : ℕ} → Fixed (active_of (front level m) (b + runs)) 1 t → n ≡ up t (tb.T i) →
-            n ≡ jobs tb (marked set) b i r.period
-        jobs_are f e = omega (arith, e, ap (jobs tb (marked set) b i) (period_is f))
+      -- and how many jobs it has
+      pub jobs_are : {t n : ℕ} → Fixed (active_of (front level m) (b + runs)) 1 t → n ≡ up t (tb.T i) →
+          n ≡ jobs tb (marked set) b i r.period
+      jobs_are f e = omega (arith, e, ap (jobs tb (marked set) b i) (period_is f))
 
-      -- the row left out
-      module _ {place rest : ℕ} {left : List ℕ} (at : place ≡ count (marked all) i)
-          (out : LeftOut true place level m left rest)
-        where
-          pub above_whole : length left ≡ ask_width * most_rows
-          above_whole = left_whole all v.packed v.whole i row_inside (sym (own r all v.more)) at out
+    -- the row left out
+    module _ {place rest : ℕ} {left : List Ask} (at : place ≡ count (marked all) i)
+        (out : LeftOut (Some place) level m left rest)
+      where
+        pub above_whole : length left ≡ most_rows
+        above_whole = left_whole all v.packed v.whole i row_inside (Some place) left rest out
 
-          pub above_few : rest ≤ most_rows
-          above_few = left_few all v.packed v.whole i row_inside (sym (own r all v.more)) at out
+        pub above_few : rest ≤ most_rows
+        above_few = left_few all v.packed v.whole i row_inside (Some place) left rest out
 
-          pub above_asks : Asking tb (marked set) (horizon + 1) (front left rest)
-          above_asks =
-              let held = left_others all v.packed v.whole i row_inside (sym (own r all v.more)) at out in
-              subst (λ P. Asking tb P (horizon + 1) (front left rest)) (sym (others r all v.more))
-              (asking_held r.sound r.asked (omega arith) (all_again r.sound r.asked (without (marked all) i))
-              above_whole held)
+        pub above_asks : Asking tb (marked set) (horizon + 1) (front left rest)
+        above_asks =
+            let held = left_others all v.packed v.whole i row_inside (Some place) left rest (own r all v.more, at) out in
+            subst (λ P. Asking tb P (horizon + 1) (front left rest)) (sym (others r all v.more))
+            (asking_held r.sound r.asked (omega arith) (all_again r.sound r.asked (without (marked all) i))
+            above_whole held)
 
 -- what is known of row i when its starts are looked for: what is asked for in the first tick, its jobs, and the level of
 -- the m rows above
-pub record Ready {tb : Table} {asks : List ℕ} {set b i q : ℕ} (r : Ranked tb asks set b i q) (first jobs_of m : ℕ)
-    (level : List ℕ) : Type 0 where
+pub record Ready {tb : Table} {asks : List Ask} {set b i q : ℕ} (r : Ranked tb asks set b i q) (first jobs_of m : ℕ)
+    (level : List Ask) : Type 0 where
   pub first_is : first ≡ active_side tb (marked set) b i 1
   pub jobs_are : jobs_of ≡ jobs tb (marked set) b i r.period
   pub few : m ≤ most_rows
-  pub whole : length level ≡ ask_width * most_rows
+  pub whole : length level ≡ most_rows
   pub asking : Asking tb (marked set) (horizon + 1) (front level m)
 
-module _ {tb : Table} {asks : List ℕ} {set b i q first jobs_of m : ℕ} {level : List ℕ} {r : Ranked tb asks set b i q}
+module _ {tb : Table} {asks : List Ask} {set b i q first jobs_of m : ℕ} {level : List Ask} {r : Ranked tb asks set b i q}
     (d : Ready r first jobs_of m level) where
   pub length_fits : q ≤ first
   length_fits = omega (arith, d.first_is, length_first (working r))

@@ -7,28 +7,21 @@ ghost use Rattle.tables.specs.Table.{most_rows};
 ghost use Rattle.tables.specs.Plan.{plan_width, plan_of};
 ghost use Rattle.tables.specs.inside.Rows.{table_in};
 ghost use Rattle.test.specs.Test.{Response};
-ghost use Rattle.sides.specs.inside.Asks.{ask_width, many, Asks};
-ghost use Rattle.sides.specs.inside.Level.{start_of, Small};
+ghost use Rattle.sides.specs.inside.Asks.{Asks};
+ghost use Rattle.sides.specs.inside.Level.{start_of};
 ghost use Rattle.sides.specs.inside.Found.{Fixed, FixedWithin};
 ghost use Rattle.responses.specs.inside.Asked.{plan_rows, Ranked, Above, Blocks, Blocking, Planned, Responses};
 
-use sides::ASK_WIDTH;
+use sides::Ask;
+use sides::periods::{active_period, climb};
 use tables::{MOST_ROWS, PLAN_WIDTH, Tasks};
 
 // The start of a job, from its base and climbed to from below: the level holds the rows above.
-fn start(level: &[u64], base: u32, low: u32) -> u32
-    requires { Small level.now × FixedWithin (start_of level.now base) 0 low }
+fn start(level: &[Ask], base: u32, low: u32) -> u32
+    requires { (length level.now ≤ most_rows) × FixedWithin (start_of level.now base) 0 low }
     ensures { Fixed (start_of level.now base) 0 result }
 {
-    let mut s = low;
-    let found = loop {
-        let next = sides::start_side(level, base, s);
-        if next == s {
-            break s;
-        }
-        s = next;
-    };
-    found
+    climb(|s| sides::start_side(level, base, s), low)
 }
 
 // A row of a plan: which row of the table it is, the rows above it as a set, its blocking, and the length of its final
@@ -43,9 +36,9 @@ struct Placed {
 
 // The response of a row; room for the level of the row and those above it is lent. The active period and the first
 // start begin at what is asked for in the first tick, each other start at the one before plus C.
-fn response(tasks: &Tasks, asks: &[u64], level: &mut [u64], placed: Placed) -> u32
+fn response(tasks: &Tasks, asks: &[Ask], level: &mut [Ask], placed: Placed) -> u32
     requires { Ranked (table_in tasks.now.rows tasks.now.n) asks.now placed.above placed.blocking placed.i placed.len
-        × (length level.old ≡ ask_width * most_rows) }
+        × (length level.old ≡ most_rows) }
     ensures { Response (table_in tasks.now.rows tasks.now.n) (marked placed.above) placed.blocking placed.i placed.len
         result }
 {
@@ -54,16 +47,16 @@ fn response(tasks: &Tasks, asks: &[u64], level: &mut [u64], placed: Placed) -> u
     let row = tasks.rows[i];
     let with_own = marks::more(placed.above, i as u32);
     let all = sides::level_of(asks, with_own, level);
-    let first = placed.blocking + sides::runs_of(&level[..ASK_WIDTH * all]);
-    let period = sides::periods::active_period(&level[..ASK_WIDTH * all], first);
+    let first = placed.blocking + sides::runs_of(&level[..all]);
+    let period = active_period(&level[..all], first);
     let jobs = counting::round_up(period as u64, row.t as u64) as u32;
     let at = marks::place(with_own, i as u32) as usize;
-    let higher = sides::leave_out(level, all, true, at);
+    let higher = sides::leave_out(level, all, Some(at));
     let mut largest: u32 = 0;
     let mut low = first - len;
     for k in 0..jobs {
         let base = sides::base_of(row, first, len, k);
-        let s = start(&level[..ASK_WIDTH * higher], base, low);
+        let s = start(&level[..higher], base, low);
         largest = largest.max(s + len - k * row.t);
         low = s + row.c;
     }
@@ -111,14 +104,14 @@ fn blocking_of(plan: &[u32], blocks: &[u32; MOST_ROWS], rank: u32) -> u32
 }
 
 // The response of each row, in table order.
-pub fn responses(tasks: &Tasks, asks: &[u64], plan: &[u32]) -> [u32; MOST_ROWS]
+pub fn responses(tasks: &Tasks, asks: &[Ask], plan: &[u32]) -> [u32; MOST_ROWS]
     requires { Planned (table_in tasks.now.rows tasks.now.n) plan.now
         × Asks (table_in tasks.now.rows tasks.now.n) asks.now }
     ensures { Responses (table_in tasks.now.rows tasks.now.n) (plan_of plan.now) result }
 {
     let blocks = blocks_of(tasks, plan);
     let mut times = [0u32; MOST_ROWS];
-    let mut level = [0u64; ASK_WIDTH * MOST_ROWS];
+    let mut level = [Ask::NOTHING; MOST_ROWS];
     for (i, row) in plan.chunks_exact(PLAN_WIDTH).enumerate() {
         let rank = row[0];
         let above = above_of(plan, rank);

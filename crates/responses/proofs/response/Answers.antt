@@ -5,7 +5,6 @@ use Rattle.marks.specs.inside.Marks.{marked}
 use Rattle.tables.specs.Table.{Table, Within, most_rows}
 use Rattle.tables.specs.inside.Rows.{table_in}
 use Rattle.test.specs.Test.{horizon, jobs, Start, active_side}
-use Rattle.sides.specs.inside.Asks.{ask_width, many}
 use Rattle.sides.specs.inside.Level.{runs_of}
 use Rattle.responses.specs.inside.Asked.{Ranked}
 use Rattle.responses.proofs.Jobs.{Job, jobs_few, length_first, base_within, job_base, next_low}
@@ -48,7 +47,7 @@ ready c =
     }
 
 pub runs_of-requires : goal.runs_of-requires
-runs_of-requires c = (level_asks c.requires.0 (levelled (goal.at.runs_of-requires c).After-level_of-all)).small
+runs_of-requires c = (level_asks c.requires.0 (levelled (goal.at.runs_of-requires c).After-level_of-all)).few
 
 pub overflow_add-first : goal.overflow_add-first
 overflow_add-first c =
@@ -58,7 +57,7 @@ overflow_add-first c =
 pub active_period-period-requires : goal.active_period-period-requires
 active_period-period-requires c =
     let v = levelled (goal.at.active_period-period-requires c).After-level_of-all in
-    ((level_asks c.requires.0 v).small, period_within c.requires.0 v c.runs_of.ensures)
+    ((level_asks c.requires.0 v).few, period_within c.requires.0 v c.runs_of.ensures)
 
 pub overflow_cast-jobs : goal.overflow_cast-jobs
 overflow_cast-jobs c =
@@ -69,7 +68,7 @@ overflow_cast-jobs c =
 pub leave_out-higher-requires : goal.leave_out-higher-requires
 leave_out-higher-requires c =
     let v = levelled (goal.at.leave_out-higher-requires c).After-level_of-all in
-    (c.level_of-all.ensures.few, v.whole, λ _. omega (arith, c.place-at.ensures, place_fits c.requires.0 v))
+    (c.level_of-all.ensures.few, v.whole, omega (arith, c.place-at.ensures, place_fits c.requires.0 v))
 
 pub overflow_sub-low : goal.overflow_sub-low
 overflow_sub-low c = length_fits (ready (goal.at.overflow_sub-low c).After-leave_out-higher)
@@ -90,7 +89,7 @@ base_of-base-requires c =
 pub start-s-requires : goal.start-s-requires
 start-s-requires c =
     let d = ready (goal.at.start-s-requires c).After-leave_out-higher in
-    (d.asking.small, start_low d c.loop-k.k c.loop-k-test.true c.base_of-base.ensures c.loop-k.invariant.low)
+    (d.asking.few, start_low d c.loop-k.k c.loop-k-test.true c.base_of-base.ensures c.loop-k.invariant.low)
 
 pub overflow_add-s : goal.overflow_add-s
 overflow_add-s c =

@@ -5,11 +5,12 @@ use Rattle.marks.specs.inside.Marks.{marked, Where}
 use Rattle.tables.specs.Table.{Table, Sound, most_rows}
 use Rattle.tables.specs.Plan.{Plan, WellFormed, plan_width, plan_of, blocks}
 use Rattle.test.specs.Test.{horizon, BusyWithin, Active, above, below, ResponseOf}
+use Rattle.sides.specs.declared.ask.Ask.{Ask}
 use Rattle.sides.specs.inside.Asks.{Asks}
 
 -- row i of a sound table, with the rows of the set above it, blocking b and length q, has an active period up to H; and
 -- what the table's rows ask with
-pub record Ranked (tb : Table) (asks : List ℕ) (set b i q : ℕ) : Type 0 where
+pub record Ranked (tb : Table) (asks : List Ask) (set b i q : ℕ) : Type 0 where
   pub sound : Sound tb
   pub asked : Asks tb asks
   pub inside : (j : ℕ) → marked set j ≡ true → j < tb.n
