@@ -12,7 +12,8 @@ module _ (Holds : ℕ → ℕ → Type 0) where
       record {
         each = below_none _;
         past =
-          λ j _. by_le most_rows j (get_or_past (replicate most_rows 0) j 0) (get_or-replicate most_rows j 0 0); whole = refl;
+            λ j _. by_le most_rows j (get_or_past (replicate most_rows 0) j 0) (get_or-replicate most_rows j 0 0);
+        whole = refl;
       }
 
   pub column_more : {i x : ℕ} {l : List ℕ} → Column i Holds l → i < most_rows → Holds i x → Column (i + 1) Holds (set l i x)

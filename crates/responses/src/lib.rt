@@ -114,14 +114,11 @@ pub fn responses(tasks: &Tasks, asks: &[Ask], plan: &[u32]) -> [u32; MOST_ROWS]
     let mut level = [Ask::NOTHING; MOST_ROWS];
     for (i, row) in plan.chunks_exact(PLAN_WIDTH).enumerate() {
         let rank = row[0];
-        let above = above_of(plan, rank);
-        let blocking = blocking_of(plan, &blocks, rank);
-        let len = row[1];
         let placed = Placed {
             i,
-            above,
-            blocking,
-            len,
+            above: above_of(plan, rank),
+            blocking: blocking_of(plan, &blocks, rank),
+            len: row[1],
         };
         times[i] = response(tasks, asks, &mut level, placed);
     }

@@ -8,7 +8,7 @@ use Rattle.test.specs.Test.{horizon, jobs, Start, active_side}
 use Rattle.sides.specs.inside.Level.{runs_of}
 use Rattle.responses.specs.inside.Asked.{Ranked}
 use Rattle.responses.proofs.Jobs.{Job, jobs_few, length_first, base_within, job_base, next_low}
-use Rattle.responses.proofs.Largest.{passed_none, passed_more, passed_all}
+use Rattle.responses.proofs.Largest.{passed_none, passed_more, passed_as, passed_all}
 use Rattle.responses.proofs.Levels.{Levelled, level_asks, place_fits, first_is, period_within, jobs_are}
 use Rattle.responses.proofs.Levels.{above_whole, above_few, above_asks, Ready, length_fits, first_low, base_fits}
 use Rattle.responses.proofs.Levels.{start_low, starts, started}
@@ -124,7 +124,7 @@ loop-k-preserved c =
     let st = starts d k l c.base_of-base.ensures c.start-s.ensures in
     let j = started d k l c.base_of-base.ensures c.start-s.ensures in
     record {
-      passed = rw c.max-largest.ensures (passed_more c.loop-k.invariant.passed st j);
+      passed = passed_as (passed_more c.loop-k.invariant.passed st j) (omega arith);
       low = λ s next. next_low (working c.requires.0) (suc k) (omega arith) st (rw (add-one k) at next);
     }
 

@@ -11,9 +11,9 @@ use Rattle.responses.proofs.Row.{Placed, ranked, response_here}
 use Rattle.responses.proofs.Stored.{column_none, column_more}
 use Rattle.responses.proofs.Walk.{Turn, counted_begins, turn, walk_ends}
 use Rattle.responses.proofs.responses.Goals as goal
-use Rattle.responses.proofs.responses.Goals.{After-blocking_of-blocking}
+use Rattle.responses.proofs.responses.Goals.{After-blocking_of}
 
-module _ (c : After-blocking_of-blocking) where
+module _ (c : After-blocking_of) where
   hand : Turn c.args.plan.now c.in-Some.i c.in-Some.row.now c.loop-i.i-iterator c.next.new.self
   hand = turn c.in-Some.row c.loop-i.invariant.walk c.in-Some.ensures.steps
 
@@ -21,16 +21,16 @@ module _ (c : After-blocking_of-blocking) where
   rows = omega (arith, c.requires.0.whole)
 
   -- the row in hand, with the rows above it and its blocking
-  placed : Placed (table_in c.args.tasks.now.rows c.args.tasks.now.n) c.args.plan.now c.in-Some.i c.above_of-above.result
-      c.blocking_of-blocking.result
+  placed : Placed (table_in c.args.tasks.now.rows c.args.tasks.now.n) c.args.plan.now c.in-Some.i c.above_of.result
+      c.blocking_of.result
   placed =
       record {
         planned = c.requires.0;
         row = omega (arith, hand.holds.inside, rows);
-        over = rw (rows, hand.holds.rank) at c.above_of-above.ensures;
+        over = rw (rows, hand.holds.rank) at c.above_of.ensures;
         under =
-            blocking_in _ (plan_of c.args.plan.now) c.blocks_of-blocks.result _ c.blocking_of-blocking.result
-            c.blocks_of-blocks.ensures (rw (rows, hand.holds.rank) at c.blocking_of-blocking.ensures);
+            blocking_in _ (plan_of c.args.plan.now) c.blocks_of-blocks.result _ c.blocking_of.result
+            c.blocks_of-blocks.ensures (rw (rows, hand.holds.rank) at c.blocking_of.ensures);
       }
 
 pub loop-i-init : goal.loop-i-init
@@ -47,12 +47,12 @@ loop-i-init c =
 
 pub response-requires : goal.response-requires
 response-requires c =
-    let s = (goal.at.response-requires c).After-blocking_of-blocking in
+    let s = (goal.at.response-requires c).After-blocking_of in
     (rw (hand s).holds.len (ranked (placed s) c.requires.1), c.loop-i.invariant.room)
 
 pub loop-i-preserved : goal.loop-i-preserved
 loop-i-preserved c =
-    let s = (goal.at.loop-i-preserved c).After-blocking_of-blocking in
+    let s = (goal.at.loop-i-preserved c).After-blocking_of in
     let h = hand s in
     let R = ResponseOf (table_in c.args.tasks.now.rows c.args.tasks.now.n) (plan_of c.args.plan.now) in
     let fits : c.in-Some.i < most_rows = omega (arith, h.holds.inside, c.requires.0.whole, c.requires.0.sound.few) in
