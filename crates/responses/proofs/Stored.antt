@@ -1,5 +1,5 @@
 -- Laws of a column whose numbers are stored one by one into an array of zeros.
-use Rattle.std.proofs.Common.{ℕ, ◌+◌, ◌≤◌, ◌<◌, ◌≡◌, List, length, get_or, set, replicate, arith, below_none, below_more, refl, ◌∙◌}
+use Rattle.std.proofs.Common.{ℕ, ◌+◌, ◌<◌, List, length, set, replicate, arith, below_none, refl, ◌∙◌}
 use Rattle.std.proofs.Common.{length-set, get_or-set_same, get_or-set_other}
 use Rattle.counting.proofs.Cases.{by_le, by_eq}
 use Rattle.tables.specs.Table.{most_rows}
@@ -16,7 +16,8 @@ module _ (Holds : ℕ → ℕ → Type 0) where
         whole = refl;
       }
 
-  pub column_more : {i x : ℕ} {l : List ℕ} → Column i Holds l → i < most_rows → Holds i x → Column (i + 1) Holds (set l i x)
+  pub column_more : {i x : ℕ} {l : List ℕ} → Column i Holds l → i < most_rows → Holds i x →
+      Column (i + 1) Holds (set l i x)
   column_more {i} {x} {l} c fits here =
       let lt : i < length l = omega (arith, c.whole) in
       record {

@@ -1,6 +1,6 @@
 -- A walk over a plan, a row at a time: what it has in hand, and what is still to come.
-use Rattle.std.proofs.Common.{ℕ, ◌+◌, ◌*◌, ◌/◌, ◌≤◌, ◌<◌, ◌≡◌, List, ◌++◌, length, get_or, drop, arith, sym, ap, ◌∙◌}
-use Rattle.std.proofs.Common.{length-drop, length-append, drop-drop, get_or-drop, Option, Some, None, Bor, subst, refl}
+use Rattle.std.proofs.Common.{ℕ, ◌+◌, ◌*◌, ◌≤◌, ◌<◌, ◌≡◌, List, ◌++◌, length, get_or, drop, arith, sym, ap, ◌∙◌}
+use Rattle.std.proofs.Common.{length-drop, length-append, drop-drop, get_or-drop, Some, None, Bor, subst, refl}
 use Rattle.std.proofs.lemmas.List.{get_or_append_left, drop_at}
 use Rattle.std.specs.declared.slice.ChunksExact.{ChunksExact}
 use Rattle.std.specs.Slice.Iter.{chunks_exact_rest, chunks_exact_size, chunks_exact_steps}

@@ -1,8 +1,7 @@
 -- `above_of` meets its contract: the set marks the rows passed that are of higher rank.
-use Rattle.std.proofs.Common.{ℕ, ◌≡◌, ◌<◌, ◌≤◌, arith, lt-ltb, le-ltb, subst, ap, ◌∙◌, sym}
+use Rattle.std.proofs.Common.{ℕ, arith, lt-ltb, le-ltb, subst}
 use Rattle.marks.specs.inside.Marks.{Where}
 use Rattle.marks.proofs.Where.{where_none, where_apart, where_more, where_same}
-use Rattle.std.specs.Iterator.Adapters.{enumerate_source, enumerate_count}
 use Rattle.tables.specs.Plan.{plan_of}
 use Rattle.test.specs.Test.{above}
 use Rattle.responses.proofs.Walk.{Turn, counted_begins, turn, walk_ends}
@@ -37,14 +36,19 @@ loop-i-preserved-then-row-rank c =
     let P = above (plan_of c.args.plan.now) c.args.rank in
     let s = (goal.at.loop-i-preserved-then-row-rank c).In-Some in
     let h = hand s in
-    (h.goes, subst (λ k. over s k c.more-set.result) h.next (where_more P c.in-Some.i c.loop-i.set (passed s) c.more-set.result (lt-ltb _ _ (omega (arith, h.holds.rank))) c.more-set.ensures))
+    let higher = lt-ltb _ c.args.rank (omega (arith, h.holds.rank)) in (
+      h.goes,
+      subst (λ k. over s k c.more-set.result) h.next
+          (where_more P c.in-Some.i c.loop-i.set (passed s) c.more-set.result higher c.more-set.ensures),
+    )
 
 pub loop-i-preserved : goal.loop-i-preserved
 loop-i-preserved c =
     let P = above (plan_of c.args.plan.now) c.args.rank in
     let s = (goal.at.loop-i-preserved c).In-Some in
     let h = hand s in
-    (h.goes, subst (λ k. over s k c.loop-i.set) h.next (where_same P c.in-Some.i c.loop-i.set (passed s) (le-ltb _ _ (omega (arith, h.holds.rank)))))
+    let lower = le-ltb _ c.args.rank (omega (arith, h.holds.rank)) in
+    (h.goes, subst (λ k. over s k c.loop-i.set) h.next (where_same P c.in-Some.i c.loop-i.set (passed s) lower))
 
 pub returns : goal.returns
 returns c = rw (walk_ends c.loop-i.invariant.0 _ c.in-None.ensures.steps.0) at c.loop-i.invariant.1

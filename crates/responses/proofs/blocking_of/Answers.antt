@@ -1,5 +1,5 @@
 -- `blocking_of` meets its contract: the most that a row below blocks with, of the rows passed.
-use Rattle.std.proofs.Common.{ℕ, ◌≡◌, arith, ap, ◌∙◌, sym, pred}
+use Rattle.std.proofs.Common.{◌≡◌, arith, ap, ◌∙◌, sym}
 use Rattle.tables.specs.Plan.{plan_of}
 use Rattle.responses.proofs.Plans.{longest_in, longest_none, longest_more, longest_same, longest_is}
 use Rattle.responses.proofs.Walk.{Turn, counted_begins, turn, walk_ends}
@@ -9,10 +9,6 @@ use Rattle.responses.proofs.blocking_of.Goals.{In-Some}
 module _ (c : In-Some) where
   hand : Turn c.args.plan.now c.in-Some.i c.in-Some.row.now c.loop-i.i-iterator c.next.new.self
   hand = turn c.in-Some.row c.loop-i.invariant.0 c.in-Some.ensures.steps
-
-  -- the most among the rows passed, before this one and with it
-  longest_at : ℕ → ℕ
-  longest_at k = longest_in (plan_of c.args.plan.now) c.args.blocks.now c.args.rank k
 
   passed : c.loop-i.longest ≡ longest_in (plan_of c.args.plan.now) c.args.blocks.now c.args.rank c.in-Some.i
   passed = c.loop-i.invariant.1 ∙ ap (longest_in (plan_of c.args.plan.now) c.args.blocks.now c.args.rank) hand.is
@@ -29,14 +25,16 @@ pub loop-i-preserved-then-rank-row : goal.loop-i-preserved-then-rank-row
 loop-i-preserved-then-rank-row c =
     let s = (goal.at.loop-i-preserved-then-rank-row c).In-Some in
     let h = hand s in
-    let more = longest_more (plan_of c.args.plan.now) c.args.blocks.now c.args.rank c.in-Some.i (omega (arith, h.holds.rank)) in
+    let more = longest_more (plan_of c.args.plan.now) c.args.blocks.now c.args.rank c.in-Some.i
+    (omega (arith, h.holds.rank)) in
     (h.goes, rw (← h.next) (omega (arith, more, passed s)))
 
 pub loop-i-preserved : goal.loop-i-preserved
 loop-i-preserved c =
     let s = (goal.at.loop-i-preserved c).In-Some in
     let h = hand s in
-    let same = longest_same (plan_of c.args.plan.now) c.args.blocks.now c.args.rank c.in-Some.i (omega (arith, h.holds.rank)) in
+    let same = longest_same (plan_of c.args.plan.now) c.args.blocks.now c.args.rank c.in-Some.i
+    (omega (arith, h.holds.rank)) in
     (h.goes, rw (← h.next) (omega (arith, same, passed s)))
 
 pub returns : goal.returns

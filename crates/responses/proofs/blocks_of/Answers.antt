@@ -1,11 +1,10 @@
 -- `blocks_of` meets its contract: what each row passed blocks with stands in its place, and the places not reached hold
 -- 0.
-use Rattle.std.proofs.Common.{ℕ, ◌≡◌, ◌<◌, arith, sym, ◌∙◌, subst, ap, get_or}
+use Rattle.std.proofs.Common.{ℕ, ◌≡◌, ◌<◌, arith, sym, ◌∙◌, ap}
 use Rattle.tables.specs.Table.{most_rows}
 use Rattle.tables.specs.Plan.{plan_of, longer, blocks}
 use Rattle.tables.specs.inside.Rows.{table_in}
 use Rattle.tables.proofs.Plan.{longer_in_lem}
-use Rattle.responses.specs.inside.Asked.{Column}
 use Rattle.responses.proofs.Stored.{column_none, column_more}
 use Rattle.responses.proofs.Walk.{Turn, counted_begins, turn, walk_ends}
 use Rattle.responses.proofs.blocks_of.Goals as goal
@@ -21,15 +20,16 @@ loop-i-init c =
 
 pub loop-i-preserved : goal.loop-i-preserved
 loop-i-preserved c =
-    let h = turn c.in-Some.row c.loop-i.invariant.0 c.in-Some.ensures.steps in
-    let tb = table_in c.args.tasks.now.rows c.args.tasks.now.n in
+    let h : Turn c.args.plan.now c.in-Some.i c.in-Some.row.now c.loop-i.i-iterator c.next.new.self =
+    turn c.in-Some.row c.loop-i.invariant.0 c.in-Some.ensures.steps in
+    let rows = c.args.tasks.now.rows in
+    let tb = table_in rows c.args.tasks.now.n in
     let i = c.in-Some.i in
     let fits : i < most_rows = omega (arith, h.holds.inside) in
     let here : c.longer.result ≡ blocks tb (plan_of c.args.plan.now) i =
-    c.longer.ensures ∙ sym (longer_in_lem c.args.tasks.now.rows c.args.tasks.now.n i _) ∙ ap (longer tb i) h.holds.len in (
-      h.goes,
-      rw (← h.next) (column_more (λ j b. b ≡ blocks tb (plan_of c.args.plan.now) j) (rw h.is at c.loop-i.invariant.1) fits here),
-    )
+    c.longer.ensures ∙ sym (longer_in_lem rows c.args.tasks.now.n i _) ∙ ap (longer tb i) h.holds.len in
+    let Holds : ℕ → ℕ → Type 0 = λ j x. x ≡ blocks tb (plan_of c.args.plan.now) j in
+    (h.goes, rw (← h.next) (column_more Holds (rw h.is at c.loop-i.invariant.1) fits here))
 
 pub returns : goal.returns
 returns c =

@@ -1,21 +1,15 @@
 -- `response` meets its contract: the largest over the jobs passed, each start no lower than the one before plus C.
-use Rattle.std.proofs.Common.{ℕ, suc, ◌+◌, ◌-◌, ◌*◌, ◌≤◌, ◌<◌, ◌≡◌, max, List, length, take, arith, ap, ◌∙◌, sym, add-one, length-take-le}
-use Rattle.counting.specs.Sum.{count}
-use Rattle.marks.specs.inside.Marks.{marked}
-use Rattle.tables.specs.Table.{Table, Within, most_rows}
-use Rattle.tables.specs.inside.Rows.{table_in}
-use Rattle.test.specs.Test.{horizon, jobs, Start, active_side}
-use Rattle.sides.specs.inside.Level.{runs_of}
-use Rattle.responses.specs.inside.Asked.{Ranked}
-use Rattle.responses.proofs.Jobs.{Job, jobs_few, length_first, base_within, job_base, next_low}
-use Rattle.responses.proofs.Largest.{passed_none, passed_more, passed_as, passed_all}
+use Rattle.std.proofs.Common.{suc, ◌+◌, arith, ◌∙◌, add-one}
+use Rattle.responses.proofs.Jobs.{jobs_few, next_low}
+use Rattle.responses.proofs.Largest.{passed_none, passed_more, passed_as}
 use Rattle.responses.proofs.Levels.{Levelled, level_asks, place_fits, first_is, period_within, jobs_are}
-use Rattle.responses.proofs.Levels.{above_whole, above_few, above_asks, Ready, length_fits, first_low, base_fits}
+use Rattle.responses.proofs.Levels.{above_asks, Ready, length_fits, first_low, responds, base_fits}
 use Rattle.responses.proofs.Levels.{start_low, starts, started}
-use Rattle.responses.proofs.Ranked.{working, inside}
+use Rattle.responses.proofs.Ranked.{working}
 use Rattle.responses.proofs.response.Goals as goal
 use Rattle.responses.proofs.response.Goals.{After-level_of-all, After-leave_out-higher}
 
+-- the level of the row and those above it
 levelled : (c : After-level_of-all) → let p = c.args.placed in
     Levelled c.args.asks.now p.above p.i c.more-with_own.result c.level_of-all.result c.level_of-all.new.level
 levelled c =
@@ -26,6 +20,7 @@ levelled c =
       whole = c.level_of-all.auto.level ∙ c.requires.1;
     }
 
+-- and what its starts are looked for with
 ready : (c : After-leave_out-higher) →
     Ready c.requires.0 (c.args.placed.blocking + c.runs_of.result) c.round_up-jobs.result c.leave_out-higher.result
     c.leave_out-higher.new.level
@@ -41,8 +36,6 @@ ready c =
     record {
       first_is = first_is c.requires.0 v c.runs_of.ensures;
       jobs_are = jobs_are c.requires.0 v c.runs_of.ensures c.active_period-period.ensures c.round_up-jobs.ensures;
-      few = above_few c.requires.0 v c.place-at.ensures c.leave_out-higher.ensures;
-      whole = above_whole c.requires.0 v c.place-at.ensures c.leave_out-higher.ensures;
       asking = above_asks c.requires.0 v c.place-at.ensures c.leave_out-higher.ensures;
     }
 
@@ -71,20 +64,24 @@ leave_out-higher-requires c =
     (c.level_of-all.ensures.few, v.whole, omega (arith, c.place-at.ensures, place_fits c.requires.0 v))
 
 pub overflow_sub-low : goal.overflow_sub-low
-overflow_sub-low c = length_fits (ready (goal.at.overflow_sub-low c).After-leave_out-higher)
+overflow_sub-low c = omega (arith, length_fits (ready (goal.at.overflow_sub-low c).After-leave_out-higher))
 
 pub loop-k-init : goal.loop-k-init
 loop-k-init c =
+    let d = ready (goal.at.loop-k-init c).After-leave_out-higher in
     record {
       passed = passed_none _ _ _ _ _;
-      low = first_low (ready (goal.at.loop-k-init c).After-leave_out-higher);
+      low = λ s st. omega (arith, first_low d s st);
     }
 
 pub base_of-base-requires : goal.base_of-base-requires
 base_of-base-requires c =
     let d = ready (goal.at.base_of-base-requires c).After-leave_out-higher in
-    let r = c.requires.0 in
-    (omega (arith, r.most, (r.sound.row c.args.placed.i r.row).C.high), length_fits d, base_fits d c.loop-k.k c.loop-k-test.true)
+    let r = c.requires.0 in (
+      omega (arith, r.most, (r.sound.row c.args.placed.i r.row).C.high),
+      length_fits d,
+      base_fits d c.loop-k.k c.loop-k-test.true,
+    )
 
 pub start-s-requires : goal.start-s-requires
 start-s-requires c =
@@ -130,6 +127,4 @@ loop-k-preserved c =
 
 pub returns : goal.returns
 returns c =
-    let d = ready (goal.at.returns c).After-leave_out-higher in
-    let all : c.loop-k.k ≡ jobs (table_in c.args.tasks.now.rows c.args.tasks.now.n) (marked c.args.placed.above) c.args.placed.blocking c.args.placed.i c.requires.0.period = omega (arith, d.jobs_are) in
-    passed_all (working c.requires.0) (rw all at c.loop-k.invariant.passed)
+    responds (ready (goal.at.returns c).After-leave_out-higher) (omega arith) c.loop-k.invariant.passed

@@ -1,11 +1,10 @@
 -- `responses` meets its contract: each row passed has its response in its place, and the places not reached hold 0.
-use Rattle.std.proofs.Common.{ℕ, ◌≡◌, ◌<◌, arith, sym, ◌∙◌, subst, ap, refl}
+use Rattle.std.proofs.Common.{◌≡◌, ◌<◌, arith, ◌∙◌, refl}
 use Rattle.tables.specs.Table.{most_rows}
 use Rattle.tables.specs.Plan.{plan_of}
 use Rattle.tables.specs.inside.Rows.{table_in}
-use Rattle.marks.specs.inside.Marks.{marked}
-use Rattle.test.specs.Test.{Response, ResponseOf}
-use Rattle.responses.specs.inside.Asked.{plan_rows, Ranked}
+use Rattle.test.specs.Test.{ResponseOf}
+use Rattle.responses.specs.inside.Asked.{plan_rows}
 use Rattle.responses.proofs.Plans.{blocking_in}
 use Rattle.responses.proofs.Row.{Placed, ranked, response_here}
 use Rattle.responses.proofs.Stored.{column_none, column_more}

@@ -1,5 +1,5 @@
 -- `responses` meets its contract: each row passed has its response in its place, and the places not reached hold 0.
-use Rattle.std.proofs.Common.{◌≡◌, ◌*◌, length}
+use Rattle.std.proofs.Common.{◌≡◌, length}
 use Rattle.tables.specs.Table.{most_rows}
 use Rattle.tables.specs.Plan.{plan_of}
 use Rattle.tables.specs.inside.Rows.{table_in}
