@@ -9,21 +9,12 @@ ghost use Rattle.tables.specs.inside.Rows.{table_in};
 ghost use Rattle.tables.specs.inside.Checked.{Says};
 ghost use Rattle.tables.specs.Answer.{result_of};
 ghost use Rattle.test.specs.Answers.{TimesAnswer, VerdictAnswer, times_width};
-ghost use Rattle.times.specs.inside.Given.{BusyChecked, Timed, Written, InTime};
+ghost use Rattle.times.specs.inside.Given.{Timed, Written, InTime};
 
-use sides::Ask;
+mod busy_check;
+
+pub use busy_check::check_busy;
 use tables::{Answer, MOST_ROWS, Refusal, TIMES_WIDTH, Tasks};
-
-// The check 4: what the rows ask with, and their busy period.
-pub fn check_busy(tasks: &Tasks) -> Result<([Ask; MOST_ROWS], u32), Refusal>
-    ensures { BusyChecked (table_in tasks.now.rows tasks.now.n) result }
-{
-    let asks = sides::asks_of(tasks);
-    match sides::periods::busy_period(&asks[..tasks.n]) {
-        Some(period) => Ok((asks, period as u32)),
-        None => Err(Refusal::NoBusy),
-    }
-}
 
 // The check 4, and then the response of each row of a plan that is well formed.
 fn responses_of(tasks: &Tasks, plan: &[u32]) -> Result<[u32; MOST_ROWS], Refusal>
