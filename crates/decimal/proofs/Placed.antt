@@ -1,12 +1,13 @@
 -- Laws of a text in a buffer: its length, one text behind another, and that what was put is settled.
 use Prim.Native.Nat.{ℕ, ◌+◌, ◌≤◌}
-use mathlib.Core.Path.{◌≡◌, sym, ◌∙◌}
+use mathlib.Core.Path.{◌≡◌, sym, ap, ◌∙◌}
 use mathlib.Core.List.{List, [], ◌∷◌, ◌++◌, append_assoc}
 use native.Mathlib.Omega.{arith}
 use native.Mathlib.Numerals.{add-one}
 use lib.ListN.{length, get_or, take, drop, set, length-append, length-drop}
 use lib.Seq.{take-suc, set_at, length-take-le, paste-zero, take_at, drop_at, drop-drop}
-use Rattle.decimal.specs.inside.Placed.{placed, Put}
+use Rattle.decimal.specs.inside.Placed.{placed, Put, Room, Writes}
+use Rattle.decimal.specs.declared.Written.{Written}
 
 module _ (b : List ℕ) (at : ℕ) (t : List ℕ) (fits : at + length t ≤ length b) where
   front_length : length (take at b ++ t) ≡ at + length t
@@ -49,3 +50,23 @@ put_none b at = record { behind = omega arith; whole = paste-zero b at [] }
 -- any two buffers and places are equal
 pub put_unique : {b t c d : List ℕ} {at m n : ℕ} → Put b at t c m → Put b at t d n → (c ≡ d) × (m ≡ n)
 put_unique p q = (p.whole ∙ sym q.whole, p.behind ∙ sym q.behind)
+
+-- two texts one behind the other: room for the first, then for the second, and both written
+pub room_front : {w : Written} (t u : List ℕ) → Room w (t ++ u) → Room w t
+room_front t u fits = record { fits = omega (arith, simp length-append at fits.fits) }
+
+module _ {w v : Written} {t : List ℕ} (u : List ℕ) (fits : Room w (t ++ u)) (p : Writes w t v) where
+  at_end : w.at + length t + length u ≤ length w.buf.now
+  at_end = omega (arith, simp length-append at fits.fits)
+
+  pub room_behind : Room v u
+  room_behind =
+      let same = length_placed w.buf.now w.at t (omega (arith, at_end)) in
+      record { fits = omega (arith, at_end, p.put.behind, ap length p.put.whole, same) }
+
+  pub written_behind : {x : Written} → Writes v u x → Writes w (t ++ u) x
+  written_behind q =
+      record {
+        same_buffer = q.same_buffer ∙ p.same_buffer;
+        put = put_behind (omega (arith, at_end)) p.put q.put;
+      }
