@@ -9,8 +9,5 @@ use Rattle.sheet.proofs.read_tasks.Given as goal
 
 abbrev pub invariant-loop-n : goal.invariant-loop-n
 invariant-loop-n l =
-    (l.n ≤ most_rows) × (length l.table ≡ length l.initial.table) × (1 ≤ l.n → l.at < length l.text)
-    × Filled l.text l.tick l.initial.table l.at l.n l.table
-
-abbrev pub decreases-loop-n : goal.decreases-loop-n
-decreases-loop-n l = most_rows - l.n
+    (l.cursor.text ≡ l.initial.cursor.text) × (1 ≤ l.n → l.cursor.at < length l.initial.cursor.text.now)
+    × Filled l.initial.cursor.text.now l.tick l.initial.table l.cursor.at l.n l.table
