@@ -1,13 +1,13 @@
 // Decimal text and words into a lent buffer, one behind the other; the promises say the whole buffer.
 #![tactic(auto)]
 
-ghost use Rattle.std.specs.Prelude.{◌≡◌, ◌++◌, length};
+ghost use Rattle.std.specs.Prelude.{◌≡◌, ◌++◌, ◌≤◌, length};
 ghost use Rattle.decimal.specs.Decimal.{decimal};
 ghost use Rattle.decimal.specs.inside.Placed.{Room, Writes};
 
-// How many bytes the decimal text of x has.
+// How many bytes the decimal text of x has, ten at most.
 pub fn width(x: u32) -> usize
-    ensures { result ≡ length (decimal x) }
+    ensures { (result ≡ length (decimal x)) × (result ≤ 10) }
 {
     if x < 10 {
         return 1;

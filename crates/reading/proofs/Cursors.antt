@@ -1,6 +1,6 @@
 -- Laws of what a cursor reads: one piece behind another, and one piece for another with the same texts.
 use Prim.Native.Nat.{ℕ}
-use mathlib.Core.Path.{◌≡◌, ◌∙◌}
+use mathlib.Core.Path.{◌∙◌}
 use Rattle.reading.specs.inside.Piece.{Piece, followed, Stuck}
 use Rattle.reading.specs.inside.Read.{Past}
 use Rattle.reading.specs.declared.Cursor.{Cursor}

@@ -1,6 +1,6 @@
 -- Laws of reading the lines of a sheet: what could follow where a reader is stuck, and what is read behind what was
 -- read.
-use Prim.Native.Nat.{ℕ, ◌≤◌}
+use Prim.Native.Nat.{ℕ}
 use mathlib.Core.Path.{◌≡◌, refl}
 use mathlib.Core.Logic.{inl, inr, ⊎_elim}
 use mathlib.Core.Option.{Option, none, some}

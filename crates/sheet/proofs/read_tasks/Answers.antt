@@ -6,7 +6,7 @@ use mathlib.Core.List.{List, [], ◌∷◌, ◌++◌}
 use native.Mathlib.Omega.{arith}
 use lib.ListN.{drop, length-append, length-drop, length}
 use lib.Seq.{length-take-le}
-use borrow.Rule.Slice.PartMut.{put_mid, same_len_mid}
+use borrow.Rule.Slice.PartMut.{put_mid}
 use Rattle.counting.proofs.Cases.{by_le}
 use Rattle.tables.specs.Table.{row_width, most_rows}
 use Rattle.reading.specs.inside.Piece.{Passed}

@@ -1,9 +1,8 @@
 -- `read_tasks` meets its contract. The loop's invariant: n tasks have been read and their rows stand at the front of
 -- the table, and behind one of them the text goes on.
-use Prim.Native.Nat.{◌≤◌, ◌<◌, ◌-◌}
+use Prim.Native.Nat.{◌≤◌, ◌<◌}
 use mathlib.Core.Path.{◌≡◌}
 use lib.ListN.{length}
-use Rattle.tables.specs.Table.{most_rows}
 use Rattle.sheet.specs.inside.Read.{Filled}
 use Rattle.sheet.proofs.read_tasks.Given as goal
 

@@ -1,5 +1,5 @@
 -- `read_times` meets its contract: three numbers, one behind the other, and a region behind a space.
-use mathlib.Core.Path.{refl}
+use mathlib.Core.Path.{◌≡◌, refl}
 use mathlib.Core.Logic.{⊎_elim}
 use Rattle.reading.proofs.Pieces.{stuck_first}
 use Rattle.reading.proofs.Cursors.{past_stuck}
@@ -28,25 +28,26 @@ returns-in_err-spacing c =
 
 pub returns-in_err-read_region : goal.returns-in_err-read_region
 returns-in_err-read_region c =
-    let space = c.if-spacing-eq32.true in
+    let space : c.in_ok-spacing.spacing.end ≡ 32 = c.if-spacing-eq32.true in
     hands_on (ReadsTimes _ _) c.from_residual-in_err-read_region.ensures
     (times_stuck c.in_ok-run.ensures c.in_ok-deadline.ensures
     (past_stuck (λ t. region_piece t.1) c.in_ok-spacing.ensures code_spacing (rw space c.in_err-read_region.ensures)))
 
 pub returns-in_ok-read_region : goal.returns-in_ok-read_region
-returns-in_ok-read_region c = (
-  _,
-  refl,
-  times_past c.in_ok-run.ensures c.in_ok-deadline.ensures c.in_ok-spacing.ensures
-      (rw c.if-spacing-eq32.true c.in_ok-read_region.ensures),
-)
+returns-in_ok-read_region c =
+    let space : c.in_ok-spacing.spacing.end ≡ 32 = c.if-spacing-eq32.true in (
+      _,
+      refl,
+      times_past c.in_ok-run.ensures c.in_ok-deadline.ensures c.in_ok-spacing.ensures
+          (rw space c.in_ok-read_region.ensures),
+    )
 
 pub returns-else-spacing-eq32 : goal.returns-else-spacing-eq32
 returns-else-spacing-eq32 c =
-    let last = c.in_ok-spacing.ensures in (
+    let last = c.in_ok-spacing.ensures in
+    let no_space : c.in_ok-spacing.spacing.end ≡ 32 → ⊥ = c.if-spacing-eq32.false in (
       _,
       refl,
       times_past c.in_ok-run.ensures c.in_ok-deadline.ensures last
-          (no_region _ _
-          (⊎_elim (λ e. absurd (c.if-spacing-eq32.false e)) (λ e. e) last.passed.allowed.1)),
+          (no_region _ _ (⊎_elim (λ e. absurd (no_space e)) (λ e. e) last.passed.allowed.1)),
     )

@@ -7,7 +7,6 @@ use native.Mathlib.Omega.{arith}
 use native.Mathlib.Numerals.{add-one}
 use lib.ListN.{drop, drop_of_length-le, length, get_or}
 use lib.Seq.{drop-cons}
-use borrow.Author.Rules.{rules}
 use Rattle.std.proofs.Common.{None}
 use Rattle.decimal.specs.Decimal.{nought, digits, decimal}
 use Rattle.decimal.proofs.Decimal.{digits_zero, decimal_digits}
@@ -116,8 +115,9 @@ returns-in_default c =
     let l = c.loop-at in
     let zero : l.value ≡ 0 → get_or text l.at 0 ≡ nought → 1 ≤ a.least =
     λ z e. elim c.else-least-lt1.branch [
-      else-least-lt1-via-then-least-lt1+else-byte-eq48 w ↦ absurd (w.if-byte-eq48.false e)
-      | else-least-lt1-via-else-least-lt1 w ↦ omega arith ] in
+      | else-least-lt1-via-then-least-lt1+else-byte-eq48 w ↦ absurd (w.if-byte-eq48.false e)
+      | else-least-lt1-via-else-least-lt1 w ↦ omega arith
+    ] in
     held _ _ _ _ _ _ _ l.value c.requires l.invariant
     (over a.least a.most a.end a.other l.value (get_or text l.at 0) _ (drop l.at text)
     (ahead text l.at c.loop-at-test.true) c.in_default.ensures (λ l. absurd (omega arith)) zero)

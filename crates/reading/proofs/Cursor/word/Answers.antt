@@ -1,10 +1,9 @@
 -- `word` meets its contract. The loop's invariant: the bytes passed are those of the word.
-use Prim.Native.Nat.{ℕ, ◌≤◌, ◌<◌, ◌+◌}
+use Prim.Native.Nat.{◌<◌, ◌+◌}
 use mathlib.Core.Path.{◌≡◌, refl}
 use native.Mathlib.Omega.{arith}
 use lib.ListN.{length, get_or, drop, length-drop}
 use lib.Seq.{get_or-drop}
-use borrow.Author.Rules.{rules}
 use Rattle.std.proofs.lemmas.Grind.{common_steps}
 use Rattle.reading.proofs.Words.{word_stops, word_passed}
 use Rattle.reading.proofs.Cursor.word.Goals as goal
