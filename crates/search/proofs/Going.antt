@@ -1,7 +1,7 @@
 -- What is known while the ranks are filled, with the rows of a set not placed: it holds at the start, goes on with each
 -- row that takes its rank, and tells how the filling ends.
 use Prim.Native.Nat.{ℕ, suc, ◌+◌, ◌-◌, ◌*◌, max, ◌≤◌, ◌<◌}
-use mathlib.Core.Path.{◌≡◌, refl, sym, ap, ◌∙◌, subst}
+use mathlib.Core.Path.{◌≡◌, sym, ap, ◌∙◌, subst}
 use mathlib.Core.Bool.{true, false}
 use mathlib.Core.List.{List}
 use native.Mathlib.Omega.{arith}
@@ -18,8 +18,7 @@ use Rattle.tables.specs.Plan.{Plan, plan_of, plan_width, cap, longer}
 use Rattle.test.specs.Test.{before, load, busy_side, Response, longest, blocking}
 use Rattle.test.proofs.Load.{Positive}
 use Rattle.test.proofs.Plans.{room, blocking_is, longest_cases}
-use Rattle.sides.specs.inside.Level.{put}
-use Rattle.sides.proofs.Pairs.{zeros, put_length, put_other, put_first, put_second}
+use Rattle.search.proofs.Pairs.{put, zeros, put_length, put_other, put_first, put_second}
 use Rattle.choice.specs.Choice.{unplaced, Takes, TakesRank, NoneFits, Filled}
 use Rattle.choice.proofs.Level.{Alike, takes_alike, none_alike}
 use Rattle.choice.proofs.Filled.{agree_alike}

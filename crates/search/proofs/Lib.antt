@@ -1,4 +1,5 @@
 -- The laws of the crate `search`.
+pub mod Pairs
 pub mod Period
 pub mod Turn
 pub mod Lengths

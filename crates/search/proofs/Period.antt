@@ -16,6 +16,7 @@ use Rattle.test.proofs.Load.{Positive, sound_positive}
 use Rattle.test.proofs.Sides.{active_side_level}
 use Rattle.test.proofs.Plans.{level_active}
 use Rattle.sides.specs.inside.Asks.{again, Asks}
+use Rattle.sides.specs.declared.ask.Ask.{Ask}
 use Rattle.sides.specs.inside.Level.{active_of}
 use Rattle.sides.specs.inside.Found.{Fixed, FixedWithin}
 use Rattle.sides.proofs.Level.{Asking}
@@ -24,7 +25,7 @@ use Rattle.sides.proofs.Lower.{active_first, active_within, active_found}
 -- a level of a table that has its busy period: some rows are unplaced, and the blocking and what they ask for is never
 -- more than what all rows ask for; the runs of the unplaced rows, the rows that are released again in the busy period,
 -- and what the table's rows ask with
-pub record Searchable (tb : Table) (asks : List ℕ) (unplaced repeats b runs bound : ℕ) : Type 0 where
+pub record Searchable (tb : Table) (asks : List Ask) (unplaced repeats b runs bound : ℕ) : Type 0 where
   pub sound : Sound tb
   pub asked : Asks tb asks
   pub inside : (j : ℕ) → marked unplaced j ≡ true → j < tb.n
@@ -35,7 +36,7 @@ pub record Searchable (tb : Table) (asks : List ℕ) (unplaced repeats b runs bo
   pub repeat : (j : ℕ) → j < tb.n → marked repeats j ≡ again tb bound j
   pub first : runs ≡ load upto tb (marked unplaced) 0
 
-module _ {tb : Table} {asks : List ℕ} {unplaced repeats b runs bound : ℕ}
+module _ {tb : Table} {asks : List Ask} {unplaced repeats b runs bound : ℕ}
     (s : Searchable tb asks unplaced repeats b runs bound) where
   abbrev U : ℕ → Bool
   U = marked unplaced
@@ -54,7 +55,7 @@ module _ {tb : Table} {asks : List ℕ} {unplaced repeats b runs bound : ℕ}
     pub period_within : {L : ℕ} → Active tb (without U i) b i L → L ≤ bound
     period_within a = omega (arith, exists.2, least_unique a exists.1)
 
-    module _ {level : List ℕ} (a : Asking tb U bound level) {first : ℕ}
+    module _ {level : List Ask} (a : Asking tb U bound level) {first : ℕ}
         (f : first ≡ b + load upto tb U 0) where
       pub period_first : first ≡ active_side tb (without U i) b i 1
       period_first = active_first a positive b i f (s.inside i e) e

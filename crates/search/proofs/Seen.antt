@@ -1,6 +1,6 @@
 -- Laws of the search over the rows: what is known of those seen while the rows of a rest are left to try.
 use Prim.Native.Nat.{ℕ, ◌-◌, max, min, ◌≤◌, ◌<◌}
-use mathlib.Core.Path.{◌≡◌, refl, ap, sym, ◌∙◌}
+use mathlib.Core.Path.{◌≡◌, ap, sym, ◌∙◌}
 use mathlib.Core.Bool.{Bool, true, false}
 use native.Mathlib.Omega.{arith}
 use Rattle.std.specs.Prelude.{Option, Some, None}
@@ -10,7 +10,7 @@ use Rattle.counting.proofs.Sum.{without_elim, without_other}
 use Rattle.marks.specs.inside.Marks.{marked, Next, Less}
 use Rattle.marks.proofs.Marks.{none}
 use Rattle.tables.specs.Table.{Table}
-use Rattle.tables.specs.declared.Row.{Row}
+use Rattle.tables.specs.declared.task.Row.{Row}
 use Rattle.tables.specs.inside.Rows.{cap_in}
 use Rattle.tables.specs.Plan.{cap, longer}
 use Rattle.tables.proofs.Plan.{longer_is, longer_ge, longer_mono}

@@ -15,7 +15,7 @@ use Rattle.tables.specs.Table.{Table}
 use Rattle.test.specs.Test.{horizon, upto, jobs, Start, active_side, start_side}
 use Rattle.test.proofs.Sides.{start_side_mono}
 use Rattle.test.proofs.Starts.{jobs_some, released_within}
-use Rattle.sides.specs.inside.Asks.{ask_width}
+use Rattle.sides.specs.declared.ask.Ask.{Ask}
 use Rattle.sides.specs.inside.Level.{start_of}
 use Rattle.sides.proofs.Level.{start_of_is}
 use Rattle.responses.proofs.Jobs.{Working, jobs_few, job_base, job_exists, job_known, next_low}
@@ -88,14 +88,14 @@ module _ {tb : Table} {P : ℕ → Bool} {b i q L : ℕ} (w : Working tb P b i q
     trial_more h = let e = next_release in lt_up L k (w.positive.T i w.row) (omega arith)
 
     -- the level of the rows above asks for what the start's right side does
-    pub trial_side : {first bound base m : ℕ} {level : List ℕ} → Hand tb P b i first L bound →
+    pub trial_side : {first bound base m : ℕ} {level : List Ask} → Hand tb P b i first L bound →
         Above tb P bound level m → base ≡ first + (k - 1) * tb.C i - q →
-        start_of (take (ask_width * m) level) base s ≡ side k s
+        start_of (take m level) base s ≡ side k s
     trial_side {first} {bound} {base} h a e =
         let z : suc (k - 1) ≡ k = omega (arith, t.low) in
         let based : base ≡ active_side tb P b i 1 + (k - 1) * tb.C i - q = omega (arith, e, h.first_is) in
         start_of_is a.asking w.positive b i q (k - 1) w.row w.most based s
-            (omega (arith, trial_within, w.some, h.in_bound))
+        (omega (arith, trial_within, w.some, h.in_bound))
         ∙ ap (λ n. start_side tb P b i upto q n s) z
 
     pub trial_again : Trial tb P b i q L k (side k s) R

@@ -9,7 +9,7 @@ use Rattle.counting.proofs.Cases.{by_le}
 use Rattle.tables.specs.Table.{Table}
 use Rattle.tables.specs.Plan.{plan_of, plan_width}
 use Rattle.test.proofs.Load.{Positive}
-use Rattle.sides.proofs.Pairs.{pairs_same}
+use Rattle.search.proofs.Pairs.{pairs_same}
 use Rattle.responses.proofs.Unique.{responses_unique}
 use Rattle.choice.proofs.Filled.{chosen_unique, chosen_not_stopped, stopped_unique}
 use Rattle.search.specs.inside.Ended.{FilledAll, Ended}

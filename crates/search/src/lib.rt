@@ -3,15 +3,15 @@
 #![tactic(auto)]
 
 ghost use Rattle.std.specs.Prelude.{◌≡◌, ◌+◌, ◌*◌, ◌≤◌, ◌<◌};
-ghost use Rattle.tables.specs.Table.{most, Sound};
+ghost use Rattle.tables.specs.Table.{most};
 ghost use Rattle.tables.specs.inside.Rows.{table_in, EndsBeforeRun};
 ghost use Rattle.test.specs.Test.{horizon, Busy};
 ghost use Rattle.sides.specs.inside.Asks.{Asks};
 ghost use Rattle.search.specs.inside.Worth.{WorthIn};
 ghost use Rattle.search.specs.inside.Ended.{Ended};
 
-use sides::ASK_WIDTH;
-use tables::{MOST_ROWS, PLAN_WIDTH, Row};
+use sides::Ask;
+use tables::{MOST_ROWS, PLAN_WIDTH, Row, Tasks};
 
 // A whole plan, two numbers a row as `times` takes it, and each row's response.
 #[derive(Drop)]
@@ -59,16 +59,16 @@ fn next_length(low: u32, high: u32, cap: u32) -> u32
 // As many rows are unplaced as the rank says that is filled next. Those of them that are released again in the busy
 // period stand in the rank's level. The active period, and what is asked for in its first tick, are the same for every
 // row tried at a rank. No row is tried after one that blocks with 1.
-pub fn fill(rows: [Row; 32], n: usize, asks: &[u64], busy: u32) -> Result<Filled, u32>
-    requires { Sound (table_in rows n) × Busy (table_in rows n) busy × (busy ≤ horizon)
-        × Asks (table_in rows n) asks.now }
-    ensures { Ended (table_in rows n) result }
+pub fn fill(tasks: Tasks, asks: &[Ask], busy: u32) -> Result<Filled, u32>
+    requires { Busy (table_in tasks.rows tasks.n) busy × (busy ≤ horizon)
+        × Asks (table_in tasks.rows tasks.n) asks.now }
+    ensures { Ended (table_in tasks.rows tasks.n) result }
 {
     let mut plan = [0u32; PLAN_WIDTH * MOST_ROWS];
     let mut times = [0u32; 32];
-    let mut level = [0u64; ASK_WIDTH * MOST_ROWS];
+    let mut level = [Ask::NOTHING; MOST_ROWS];
     let again = sides::again_of(asks, busy);
-    let mut unplaced = marks::whole(n as u32);
+    let mut unplaced = marks::whole(tasks.n as u32);
     let mut runs = sides::runs_of(asks);
     let mut blocking: u32 = 0;
     'ranks: while unplaced != 0 {
@@ -76,20 +76,19 @@ pub fn fill(rows: [Row; 32], n: usize, asks: &[u64], busy: u32) -> Result<Filled
         let packed = marks::both(unplaced, again);
         let all = sides::level_of(asks, packed, &mut level);
         let first = blocking + runs;
-        let period = sides::periods::active_period(&level[..ASK_WIDTH * all], first);
+        let period = sides::periods::active_period(&level[..all], first);
         let mut best: Option<Candidate> = None;
         let mut rest = unplaced;
         'rows: while rest != 0 {
             let i = marks::next(rest);
             rest = marks::less(rest, i);
-            let own = rows[i as usize];
+            let own = tasks.rows[i as usize];
             let worth = cap_of(own, best);
             if let Some(cap) = worth {
                 // The others stand above it while it is tried: in the level the last one takes its place. A row that is
                 // not released again is not in it.
-                let inside = marks::has(packed, i);
-                let at = marks::place(packed, i) as usize;
-                let above = sides::leave_out(&mut level, all, inside, at);
+                let at = marks::place_of(packed, i);
+                let above = sides::leave_out(&mut level, all, at);
                 // No length below low passes; high passes with the response, or lies past the cap where there is none.
                 let mut low: u32 = 1;
                 let mut high = cap + 1;
@@ -110,7 +109,7 @@ pub fn fill(rows: [Row; 32], n: usize, asks: &[u64], busy: u32) -> Result<Filled
                             if due < s + len {
                                 break 'jobs None;
                             }
-                            let next = sides::start_side(&level[..ASK_WIDTH * above], base, s);
+                            let next = sides::start_side(&level[..above], base, s);
                             if next == s {
                                 break s;
                             }
@@ -133,7 +132,7 @@ pub fn fill(rows: [Row; 32], n: usize, asks: &[u64], busy: u32) -> Result<Filled
                     }
                     len = next_length(low, high, cap);
                 }
-                sides::put_back(&mut level, inside, at, asks, i as usize);
+                sides::put_back(&mut level, at, asks[i as usize]);
                 if let Some(response) = passed {
                     let longer = tables::longer(own, high);
                     best = Some(Candidate {
@@ -156,7 +155,7 @@ pub fn fill(rows: [Row; 32], n: usize, asks: &[u64], busy: u32) -> Result<Filled
         plan[at] = rank;
         plan[at + 1] = taken.length;
         times[placed] = taken.response;
-        runs -= asks[ASK_WIDTH * placed] as u32;
+        runs -= asks[placed].run as u32;
         blocking = blocking.max(taken.longer - 1);
         unplaced = marks::less(unplaced, taken.row);
     }

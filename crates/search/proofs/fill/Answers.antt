@@ -1,13 +1,12 @@
 -- `fill` meets its contract: at each goal what is known is one law of Turn, Lengths, Trial, Seen, Runs or Going.
-use Prim.Native.Nat.{ℕ, ◌≤◌, ◌<◌, ◌+◌, ◌*◌, ◌-◌}
-use mathlib.Core.Path.{◌≡◌, refl, sym, ap, ◌∙◌, subst}
+use Prim.Native.Nat.{◌≤◌, ◌<◌, ◌+◌, ◌-◌}
+use mathlib.Core.Path.{◌≡◌, refl, sym, ap, ◌∙◌}
 use mathlib.Core.Bool.{true}
 use native.Mathlib.Omega.{arith}
 use Rattle.std.specs.Prelude.{Some}
 use native.Mathlib.Nat.{pos_of_ne-zero}
-use borrow.Author.Rules.{rules}
-use lib.ListN.{length, get_or, take}
-use Rattle.counting.specs.Sum.{without, count}
+use lib.ListN.{get_or, take}
+use Rattle.counting.specs.Sum.{without}
 use Rattle.marks.specs.inside.Marks.{marked}
 use Rattle.marks.proofs.Marks.{count_something}
 use Rattle.tables.specs.Table.{most_rows}
@@ -17,17 +16,16 @@ use Rattle.tables.proofs.Plan.{cap_in_lem, cap_run, longer_in_lem, longer_ge}
 use Rattle.test.specs.Test.{upto, start_side}
 use Rattle.test.proofs.Load.{sound_positive}
 use Rattle.choice.specs.Choice.{Takes}
-use Rattle.sides.specs.inside.Asks.{ask_width, run}
 use Rattle.sides.specs.inside.Level.{start_of}
 use Rattle.sides.proofs.Again.{again_asked}
 use Rattle.responses.proofs.Jobs.{Working, length_first, base_within}
-use Rattle.search.proofs.Turn.{Turn, Hand, turn_level, turn_period, turn_hand, hand_works, place_fits, left_level, left_back}
+use Rattle.search.proofs.Turn.{Turn, Hand, turn_level, turn_period, turn_hand, hand_works, place_fits, place_in_room, left_level, left_back}
 use Rattle.search.proofs.Lengths.{Tested, Narrowed, narrowed_first, narrowed_fits, narrowed_misses}
-use Rattle.search.proofs.Trial.{trial_first, trial_within, trial_few, trial_released, trial_last, trial_more, trial_side}
+use Rattle.search.proofs.Trial.{trial_first, trial_within, trial_released, trial_last, trial_more, trial_side}
 use Rattle.search.proofs.Trial.{trial_again, trial_misses, trial_after, trial_next, trial_passes}
-use Rattle.search.proofs.Seen.{Seen, Leads, worth_top, worth_over, top_le}
+use Rattle.search.proofs.Seen.{Seen, worth_top, worth_over, top_le}
 use Rattle.search.proofs.Seen.{seen_first, seen_over, seen_same, seen_better, seen_one, seen_all, seen_none}
-use Rattle.search.proofs.Runs.{runs_first, runs_enough, runs_more}
+use Rattle.search.proofs.Runs.{runs_first, read_run, runs_enough, runs_more}
 use Rattle.search.proofs.Going.{going_first, going_room, going_stops, going_ends, going_more}
 use Rattle.search.proofs.fill.Goals as goal
 use Rattle.search.proofs.fill.Goals.{After-level_of-all, After-next-i, In-lengths, At-loop-s, Then-next-s, Joined-due-s}
@@ -38,23 +36,23 @@ use Rattle.search.proofs.fill.Goals.{then-rows-test+in-Some+else-lengths-test+in
 
 -- ---- the rank that is filled
 turn : (c : After-level_of-all) →
-    Turn (table_in c.args.rows c.args.n) c.args.asks.now c.ranks.unplaced c.again_of-again.result c.ranks.blocking
+    Turn (table_in c.args.tasks.rows c.args.tasks.n) c.args.asks.now c.ranks.unplaced c.again_of-again.result c.ranks.blocking
     c.ranks.runs c.args.busy c.both-packed.result c.level_of-all.new.level c.level_of-all.result
     (c.ranks.blocking + c.ranks.runs)
 turn c =
-    let sound = c.requires.0 in
-    let busy = c.requires.1 in
+    let sound = c.args.tasks.sound in
+    let busy = c.requires.0 in
     record {
       search =
           record {
             sound = sound;
-            asked = c.requires.3;
+            asked = c.requires.2;
             inside = c.ranks.invariant.going.inside;
             some = pos_of_ne-zero c.ranks-test.true;
             busy = busy;
-            within = c.requires.2;
+            within = c.requires.1;
             room = going_room _ (sound_positive _ sound) c.ranks.invariant.going;
-            repeat = again_asked c.again_of-again.result sound c.requires.3 busy.low c.requires.2 c.again_of-again.ensures;
+            repeat = again_asked c.again_of-again.result sound c.requires.2 busy.low c.requires.1 c.again_of-again.ensures;
             first = c.ranks.invariant.runs;
           };
       both = c.both-packed.ensures;
@@ -66,11 +64,11 @@ turn c =
 
 pub ranks-init : goal.ranks-init
 ranks-init c =
-    let sound = c.requires.0 in
+    let sound = c.args.tasks.sound in
     record {
       going = going_first _ sound c.whole-unplaced.result c.whole-unplaced.ensures;
       level = refl;
-      runs = c.runs_of-runs.ensures ∙ runs_first c.whole-unplaced.result sound c.requires.3 c.whole-unplaced.ensures;
+      runs = c.runs_of-runs.ensures ∙ runs_first c.whole-unplaced.result sound c.requires.2 c.whole-unplaced.ensures;
     }
 
 pub overflow_add-first : goal.overflow_add-first
@@ -81,7 +79,7 @@ overflow_add-first c =
 pub active_period-period-requires : goal.active_period-period-requires
 active_period-period-requires c =
     let t = turn (goal.at.active_period-period-requires c).After-level_of-all in
-    ((turn_level t).asking.small, turn_period t)
+    ((turn_level t).asking.few, turn_period t)
 
 pub rows-init : goal.rows-init
 rows-init c =
@@ -96,7 +94,7 @@ among : (c : After-next-i) → marked c.ranks.unplaced c.next-i.result ≡ true
 among c = c.rows.invariant.seen.among c.next-i.result c.next-i.ensures.first.holds
 
 hand : (c : After-next-i) →
-    Hand (table_in c.args.rows c.args.n) (without (marked c.ranks.unplaced) c.next-i.result) c.ranks.blocking
+    Hand (table_in c.args.tasks.rows c.args.tasks.n) (without (marked c.ranks.unplaced) c.next-i.result) c.ranks.blocking
     c.next-i.result (c.ranks.blocking + c.ranks.runs) c.active_period-period.result c.args.busy
 hand c = turn_hand c.rows.invariant.turn _ (among c) c.rows.invariant.period
 
@@ -104,7 +102,7 @@ pub leave_out-above-requires : goal.leave_out-above-requires
 leave_out-above-requires c =
     let t = c.rows.invariant.turn in
     let m = among (goal.at.leave_out-above-requires c).After-next-i in
-    (t.packed.few, t.whole, place_fits t _ m c.has-inside.ensures c.place-at.ensures)
+    (t.packed.few, t.whole, place_fits t _ m c.place_of-at.result c.place_of-at.ensures)
 
 pub lengths-init : goal.lengths-init
 lengths-init c =
@@ -112,17 +110,18 @@ lengths-init c =
     record {
       hand = hand g;
       above =
-          left_level c.rows.invariant.turn _ (among g) c.has-inside.ensures c.place-at.ensures c.leave_out-above.ensures;
+          left_level c.rows.invariant.turn _ (among g) c.place_of-at.result c.place_of-at.ensures
+          c.leave_out-above.new.level c.leave_out-above.result c.leave_out-above.ensures;
       top =
-          rw (cap_in_lem c.args.rows c.args.n c.next-i.result)
-          (worth_top (get_or c.args.rows c.next-i.result no) c.rows.best c.in-Some.cap c.in-Some.ensures);
+          rw (cap_in_lem c.args.tasks.rows c.args.tasks.n c.next-i.result)
+          (worth_top (get_or c.args.tasks.rows c.next-i.result no) c.rows.best c.in-Some.cap c.in-Some.ensures);
       narrowed = narrowed_first _ _ _ _ _;
       between = λ h. (omega arith, h);
     }
 
 -- ---- the length that is tried
 works : (c : In-lengths) →
-    Working (table_in c.args.rows c.args.n) (without (marked c.ranks.unplaced) c.next-i.result) c.ranks.blocking
+    Working (table_in c.args.tasks.rows c.args.tasks.n) (without (marked c.ranks.unplaced) c.next-i.result) c.ranks.blocking
     c.next-i.result c.lengths.len c.active_period-period.result
 works c =
     let v = c.lengths.invariant in
@@ -159,8 +158,8 @@ base_of-base-requires c =
 
 -- ---- one value of a start's iteration
 side : (c : At-loop-s) →
-    start_of (take (ask_width * c.leave_out-above.result) c.leave_out-above.new.level) c.base_of-base.result c.loop-s.s
-    ≡ start_side (table_in c.args.rows c.args.n) (without (marked c.ranks.unplaced) c.next-i.result) c.ranks.blocking
+    start_of (take c.leave_out-above.result c.leave_out-above.new.level) c.base_of-base.result c.loop-s.s
+    ≡ start_side (table_in c.args.tasks.rows c.args.tasks.n) (without (marked c.ranks.unplaced) c.next-i.result) c.ranks.blocking
     c.next-i.result upto c.lengths.len c.jobs.k c.loop-s.s
 side c =
     trial_side c.jobs.invariant.working c.loop-s.invariant c.lengths.invariant.hand c.lengths.invariant.above
@@ -175,7 +174,7 @@ start_side-next-requires c =
     let w = c.jobs.invariant.working in
     let short = c.lengths.invariant.hand.short in
     let is = side (goal.at.start_side-next-requires c).At-loop-s in (
-      c.lengths.invariant.above.asking.small,
+      c.lengths.invariant.above.asking.few,
       omega (arith, trial_within w c.loop-s.invariant, short),
       omega (arith, is, trial_within w (trial_again w c.loop-s.invariant), short),
     )
@@ -200,7 +199,7 @@ loop-s-preserved c =
 -- a value that repeats is the start
 repeats : (c : Then-next-s) →
     c.loop-s.s
-    ≡ start_side (table_in c.args.rows c.args.n) (without (marked c.ranks.unplaced) c.next-i.result) c.ranks.blocking
+    ≡ start_side (table_in c.args.tasks.rows c.args.tasks.n) (without (marked c.ranks.unplaced) c.next-i.result) c.ranks.blocking
     c.next-i.result upto c.lengths.len c.jobs.k c.loop-s.s
 repeats c = sym c.if-next-s.true ∙ c.start_side-next.ensures ∙ side (goal.at.overflow_add-start c).At-loop-s
 
@@ -233,7 +232,7 @@ jobs-preserved c =
 
 -- ---- where the job loop is left
 tested : (c : Joined-due-s) →
-    Tested (table_in c.args.rows c.args.n) (without (marked c.ranks.unplaced) c.next-i.result) c.ranks.blocking
+    Tested (table_in c.args.tasks.rows c.args.tasks.n) (without (marked c.ranks.unplaced) c.next-i.result) c.ranks.blocking
     c.next-i.result c.lengths.len c.if-due-s.trial
 tested c =
     let w = c.jobs.invariant.working in
@@ -249,25 +248,23 @@ tested c =
 
 -- ---- where a length has been tried
 narrower : (c : Joined-trial) →
-    Narrowed (table_in c.args.rows c.args.n) (without (marked c.ranks.unplaced) c.next-i.result) c.ranks.blocking
+    Narrowed (table_in c.args.tasks.rows c.args.tasks.n) (without (marked c.ranks.unplaced) c.next-i.result) c.ranks.blocking
     c.next-i.result c.in-Some.cap c.match-trial.low c.match-trial.high c.match-trial.passed
     × (c.match-trial.high - c.match-trial.low < c.lengths.high - c.lengths.low)
 narrower c =
     let v = c.lengths.invariant in
     let b = v.between c.lengths-test.true in
-    let most : c.lengths.len ≤ cap (table_in c.args.rows c.args.n) c.next-i.result =
+    let most : c.lengths.len ≤ cap (table_in c.args.tasks.rows c.args.tasks.n) c.next-i.result =
     omega (arith, b.1, v.narrowed.within, top_le _ _ c.rows.best _ v.top) in
     let t = tested (goal.at.next_length-len-requires c).Joined-due-s in
     elim c.match-trial.branch [
       | in-Some-trial w ↦
-          rw (w.low-is, w.high-is, w.passed-is)
-          (
+          rw (w.low-is, w.high-is, w.passed-is) (
             narrowed_fits v.narrowed b.0 b.1 most c.jobs.invariant.working (rw w.in-Some-trial.is at t),
             omega (arith, b.0, b.1),
           )
       | in_default-trial w ↦
-          rw (w.low-is, w.high-is, w.passed-is)
-          (
+          rw (w.low-is, w.high-is, w.passed-is) (
             narrowed_misses v.narrowed b.0 b.1 most c.jobs.invariant.working (rw w.in_default-trial.is at t),
             omega (arith, b.0, b.1),
           )
@@ -277,9 +274,9 @@ pub next_length-len-requires : goal.next_length-len-requires
 next_length-len-requires c =
     let w = (narrower c).0 in
     let h = c.lengths.invariant.hand in
-    let capped : c.in-Some.cap ≤ cap (table_in c.args.rows c.args.n) c.next-i.result =
+    let capped : c.in-Some.cap ≤ cap (table_in c.args.tasks.rows c.args.tasks.n) c.next-i.result =
     top_le _ _ c.rows.best _ c.lengths.invariant.top in
-    (w.within, omega (arith, cap_run (table_in c.args.rows c.args.n) c.next-i.result capped, h.sound.C.high), w.order)
+    (w.within, omega (arith, cap_run (table_in c.args.tasks.rows c.args.tasks.n) c.next-i.result capped, h.sound.C.high), w.order)
 
 pub lengths-smaller : goal.lengths-smaller
 lengths-smaller c = (narrower (goal.at.lengths-smaller c).Joined-trial).1
@@ -298,12 +295,9 @@ lengths-preserved c =
 -- ---- where all lengths of the row in hand are tried
 pub put_back-requires : goal.put_back-requires
 put_back-requires c =
-    let t = c.rows.invariant.turn in
     let m = among (goal.at.put_back-requires c).After-next-i in (
-      omega (arith, t.search.asked.long, t.search.inside _ m),
-      omega (arith, t.search.asked.long, t.search.sound.few),
       c.lengths.invariant.above.whole,
-      λ e. omega (arith, place_fits t _ m c.has-inside.ensures c.place-at.ensures e, t.packed.few),
+      place_in_room c.rows.invariant.turn _ m c.place_of-at.result c.place_of-at.ensures,
     )
 
 pub rows-preserved-else-longer-eq1 : goal.rows-preserved-else-longer-eq1
@@ -312,14 +306,15 @@ rows-preserved-else-longer-eq1 c =
     let l = c.lengths.invariant in
     let m = among (goal.at.rows-preserved-else-longer-eq1 c).After-next-i in
     let back =
-    left_back v.turn _ m c.has-inside.ensures c.place-at.ensures c.leave_out-above.ensures c.put_back.ensures in
+    left_back v.turn _ m c.place_of-at.result c.place_of-at.ensures c.leave_out-above.new.level c.leave_out-above.result
+    c.leave_out-above.ensures c.put_back.new.level c.index-asks-i.result c.index-asks-i.is c.put_back.ensures in
     record {
       turn = rw back v.turn;
       period = rw back v.period;
       seen =
           seen_better c.rows.best v.seen c.next-i.ensures c.less-rest.ensures l.hand.row l.top l.narrowed
           c.lengths-test.false (rw c.in-Some-passed.is at l.narrowed.found)
-          (c.longer-longer.ensures ∙ sym (longer_in_lem c.args.rows c.args.n c.next-i.result c.lengths.high));
+          (c.longer-longer.ensures ∙ sym (longer_in_lem c.args.tasks.rows c.args.tasks.n c.next-i.result c.lengths.high));
     }
 
 pub rows-preserved-in_default-passed : goal.rows-preserved-in_default-passed
@@ -328,7 +323,8 @@ rows-preserved-in_default-passed c =
     let l = c.lengths.invariant in
     let m = among (goal.at.rows-preserved-in_default-passed c).After-next-i in
     let back =
-    left_back v.turn _ m c.has-inside.ensures c.place-at.ensures c.leave_out-above.ensures c.put_back.ensures in
+    left_back v.turn _ m c.place_of-at.result c.place_of-at.ensures c.leave_out-above.new.level c.leave_out-above.result
+    c.leave_out-above.ensures c.put_back.new.level c.index-asks-i.result c.index-asks-i.is c.put_back.ensures in
     record {
       turn = rw back v.turn;
       period = rw back v.period;
@@ -347,7 +343,7 @@ rows-preserved c =
       period = v.period;
       seen =
           seen_over c.rows.best v.seen c.next-i.ensures c.less-rest.ensures (v.turn.search.inside _ m)
-          (worth_over (get_or c.args.rows c.next-i.result no) c.rows.best c.in_default.ensures);
+          (worth_over (get_or c.args.tasks.rows c.next-i.result no) c.rows.best c.in_default.ensures);
     }
 
 -- ---- where all rows have been tried
@@ -367,7 +363,7 @@ returns-in_default-best c =
 
 -- ---- the row that takes the rank
 seen : (c : In-Some-best) →
-    Seen (table_in c.args.rows c.args.n) (marked c.ranks.unplaced) c.ranks.blocking (marked c.ranks.unplaced)
+    Seen (table_in c.args.tasks.rows c.args.tasks.n) (marked c.ranks.unplaced) c.ranks.blocking (marked c.ranks.unplaced)
     (Some c.in-Some-best.taken) 0
 seen c =
     elim c.rows-test.branch [
@@ -379,16 +375,16 @@ seen c =
           (seen_one w.if-longer-eq1.true
           (seen_better c.rows.best c.rows.invariant.seen w.next-i.ensures w.less-rest.ensures l.hand.row l.top l.narrowed
           w.lengths-test.false (rw w.in-Some-passed.is at l.narrowed.found)
-          (w.longer-longer.ensures ∙ sym (longer_in_lem c.args.rows c.args.n w.next-i.result w.lengths.high))))
+          (w.longer-longer.ensures ∙ sym (longer_in_lem c.args.tasks.rows c.args.tasks.n w.next-i.result w.lengths.high))))
     ]
 
 takes : (c : In-Some-best) →
-    Takes (table_in c.args.rows c.args.n) (marked c.ranks.unplaced) c.ranks.blocking (marked c.ranks.unplaced)
+    Takes (table_in c.args.tasks.rows c.args.tasks.n) (marked c.ranks.unplaced) c.ranks.blocking (marked c.ranks.unplaced)
     c.in-Some-best.taken.row c.in-Some-best.taken.length
 takes c = seen_all (seen c)
 
 row_inside : (c : In-Some-best) → c.in-Some-best.taken.row < most_rows
-row_inside c = omega (arith, (takes c).row, c.requires.0.few)
+row_inside c = omega (arith, (takes c).row, c.args.tasks.sound.few)
 
 pub bounds-plan-at : goal.bounds-plan-at
 bounds-plan-at c = omega (arith, row_inside (goal.at.bounds-plan-at c).In-Some-best)
@@ -401,15 +397,15 @@ bounds-times-placed c = omega (arith, row_inside (goal.at.bounds-times-placed c)
 
 pub bounds-asks-placed : goal.bounds-asks-placed
 bounds-asks-placed c =
-    omega (arith, (takes (goal.at.bounds-asks-placed c).In-Some-best).row, c.requires.3.long)
+    omega (arith, (takes (goal.at.bounds-asks-placed c).In-Some-best).row, c.requires.2.long)
 
 pub overflow_sub-runs : goal.overflow_sub-runs
 overflow_sub-runs c =
     let k = takes (goal.at.overflow_sub-runs c).In-Some-best in
     omega (
       arith,
-      c.requires.3.runs c.in-Some-best.taken.row k.row,
-      runs_enough (sound_positive _ c.requires.0) c.ranks.unplaced c.ranks.invariant.runs k.row k.try,
+      read_run c.index-asks-placed.result c.requires.2 k.row,
+      runs_enough (sound_positive _ c.args.tasks.sound) c.ranks.unplaced c.ranks.invariant.runs k.row k.try,
     )
 
 pub overflow_sub-taken : goal.overflow_sub-taken
@@ -419,7 +415,7 @@ overflow_sub-taken c =
       arith,
       k.blocks_with,
       k.shortest.low,
-      longer_ge (table_in c.args.rows c.args.n) c.in-Some-best.taken.row c.in-Some-best.taken.length,
+      longer_ge (table_in c.args.tasks.rows c.args.tasks.n) c.in-Some-best.taken.row c.in-Some-best.taken.length,
     )
 
 pub less-unplaced-requires : goal.less-unplaced-requires
@@ -431,7 +427,7 @@ pub ranks-preserved : goal.ranks-preserved
 ranks-preserved c =
     let g = (goal.at.ranks-preserved c).In-Some-best in
     let k = (seen g).leads in
-    let pos = sound_positive _ c.requires.0 in
+    let pos = sound_positive _ c.args.tasks.sound in
     record {
       going =
           rw c.size-rank.ensures
@@ -444,10 +440,10 @@ ranks-preserved c =
                 rw w.level-is (w.put_back.auto.level ∙ w.lengths.invariant.above.whole)
           ];
       runs =
-          ap (λ x. c.ranks.runs - x) (c.requires.3.runs c.in-Some-best.taken.row k.row)
+          ap (λ x. c.ranks.runs - x) (read_run c.index-asks-placed.result c.requires.2 k.row)
           ∙ runs_more pos c.ranks.unplaced c.ranks.invariant.runs k.row k.try c.less-unplaced.ensures;
     }
 
 pub returns : goal.returns
 returns c =
-    going_ends _ (sound_positive _ c.requires.0) c.ranks.invariant.going c.ranks-test.false
+    going_ends _ (sound_positive _ c.args.tasks.sound) c.ranks.invariant.going c.ranks-test.false

@@ -1,7 +1,7 @@
 -- The longest length of a row that is worth a try.
 use Rattle.std.specs.Prelude.{ℕ, Option, Some, None, ◌-◌, min, max, ◌≤◌, ◌<◌, ◌≡◌}
 use Rattle.tables.specs.inside.Rows.{cap_in}
-use Rattle.tables.specs.declared.Row.{Row}
+use Rattle.tables.specs.declared.task.Row.{Row}
 use Rattle.search.specs.declared.Candidate.{Candidate}
 
 -- top is the longest length, of 1 to `most`, with which a row of middle region M blocks with less than `best`; none
