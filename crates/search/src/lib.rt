@@ -17,7 +17,7 @@ use tables::{MOST_ROWS, PLAN_WIDTH, Row, Tasks};
 #[derive(Drop)]
 pub struct Filled {
     pub plan: [u32; PLAN_WIDTH * MOST_ROWS],
-    pub times: [u32; 32],
+    pub times: [u32; MOST_ROWS],
 }
 
 // A row that may take the rank: its shortest passing length, what it blocks with at that length, and its response.
@@ -65,7 +65,7 @@ pub fn fill(tasks: Tasks, asks: &[Ask], busy: u32) -> Result<Filled, u32>
     ensures { Ended (table_in tasks.rows tasks.n) result }
 {
     let mut plan = [0u32; PLAN_WIDTH * MOST_ROWS];
-    let mut times = [0u32; 32];
+    let mut times = [0u32; MOST_ROWS];
     let mut level = [Ask::NOTHING; MOST_ROWS];
     let again = sides::again_of(asks, busy);
     let mut unplaced = marks::whole(tasks.n as u32);
@@ -83,67 +83,67 @@ pub fn fill(tasks: Tasks, asks: &[Ask], busy: u32) -> Result<Filled, u32>
             let i = marks::next(rest);
             rest = marks::less(rest, i);
             let own = tasks.rows[i as usize];
-            let worth = cap_of(own, best);
-            if let Some(cap) = worth {
-                // The others stand above it while it is tried: in the level the last one takes its place. A row that is
-                // not released again is not in it.
-                let at = marks::place_of(packed, i);
-                let above = sides::leave_out(&mut level, all, at);
-                // No length below low passes; high passes with the response, or lies past the cap where there is none.
-                let mut low: u32 = 1;
-                let mut high = cap + 1;
-                let mut passed: Option<u32> = None;
-                let mut len: u32 = 1;
-                'lengths: while low < high {
-                    let mut k: u32 = 1;
-                    let mut largest: u32 = 0;
-                    // The first job starts no sooner than after what the level asks for in its first tick, but for the
-                    // job's own final region.
-                    let mut s = first - len;
-                    let trial = 'jobs: loop {
-                        let released = (k - 1) * own.t;
-                        let due = released + own.d;
-                        let base = sides::base_of(own, first, len, k - 1);
-                        let start = loop {
-                            // Each value is a lower bound of the start: where it is too late, the job misses.
-                            if due < s + len {
-                                break 'jobs None;
-                            }
-                            let next = sides::start_side(&level[..above], base, s);
-                            if next == s {
-                                break s;
-                            }
-                            s = next;
-                        };
-                        largest = largest.max(start + len - released);
-                        // Jobs released in the active period count.
-                        if period <= released + own.t {
-                            break 'jobs Some(largest);
+            let Some(cap) = cap_of(own, best) else {
+                continue 'rows;
+            };
+            // The others stand above it while it is tried: in the level the last one takes its place. A row that is
+            // not released again is not in it.
+            let at = marks::place_of(packed, i);
+            let above = sides::leave_out(&mut level, all, at);
+            // No length below low passes; high passes with the response, or lies past the cap where there is none.
+            let mut low: u32 = 1;
+            let mut high = cap + 1;
+            let mut passed: Option<u32> = None;
+            let mut len: u32 = 1;
+            'lengths: while low < high {
+                let mut k: u32 = 1;
+                let mut largest: u32 = 0;
+                // The first job starts no sooner than after what the level asks for in its first tick, but for the
+                // job's own final region.
+                let mut s = first - len;
+                let trial = 'jobs: loop {
+                    let released = (k - 1) * own.t;
+                    let due = released + own.d;
+                    let base = sides::base_of(own, first, len, k - 1);
+                    let start = loop {
+                        // Each value is a lower bound of the start: where it is too late, the job misses.
+                        if due < s + len {
+                            break 'jobs None;
                         }
-                        // The next job starts at least C later.
-                        k += 1;
-                        s = start + own.c;
+                        let next = sides::start_side(&level[..above], base, s);
+                        if next == s {
+                            break s;
+                        }
+                        s = next;
                     };
-                    if let Some(response) = trial {
-                        high = len;
-                        passed = Some(response);
-                    } else {
-                        low = len + 1;
+                    largest = largest.max(start + len - released);
+                    // Jobs released in the active period count.
+                    if period <= released + own.t {
+                        break 'jobs Some(largest);
                     }
-                    len = next_length(low, high, cap);
+                    // The next job starts at least C later.
+                    k += 1;
+                    s = start + own.c;
+                };
+                if let Some(response) = trial {
+                    high = len;
+                    passed = Some(response);
+                } else {
+                    low = len + 1;
                 }
-                sides::put_back(&mut level, at, asks[i as usize]);
-                if let Some(response) = passed {
-                    let longer = tables::longer(own, high);
-                    best = Some(Candidate {
-                        row: i,
-                        length: high,
-                        longer: longer,
-                        response: response,
-                    });
-                    if longer == 1 {
-                        break 'rows;
-                    }
+                len = next_length(low, high, cap);
+            }
+            sides::put_back(&mut level, at, asks[i as usize]);
+            if let Some(response) = passed {
+                let longer = tables::longer(own, high);
+                best = Some(Candidate {
+                    row: i,
+                    length: high,
+                    longer,
+                    response,
+                });
+                if longer == 1 {
+                    break 'rows;
                 }
             }
         }
@@ -159,8 +159,5 @@ pub fn fill(tasks: Tasks, asks: &[Ask], busy: u32) -> Result<Filled, u32>
         blocking = blocking.max(taken.longer - 1);
         unplaced = marks::less(unplaced, taken.row);
     }
-    Ok(Filled {
-        plan: plan,
-        times: times,
-    })
+    Ok(Filled { plan, times })
 }
