@@ -1,9 +1,13 @@
 // A set of rows as one 32-bit number: row i is marked where binary digit i is 1.
 #![tactic(auto)]
 
+mod walk;
+
 ghost use Rattle.std.specs.Prelude.{◌≡◌, true, false, ℕ, ◌≤◌, ◌<◌};
 ghost use Rattle.counting.specs.Sum.{count};
 ghost use Rattle.marks.specs.inside.Marks.{marked, Whole, Next, Both, Placed, Less, More};
+
+pub use walk::{Walk, rows};
 
 // All rows below n.
 pub fn whole(n: u32) -> u32
