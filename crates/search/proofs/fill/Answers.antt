@@ -317,11 +317,11 @@ rows-preserved-else-longer-eq1 c =
           (c.longer-longer.ensures ∙ sym (longer_in_lem c.args.tasks.rows c.args.tasks.n c.next-i.result c.lengths.high));
     }
 
-pub rows-preserved-in_default-passed : goal.rows-preserved-in_default-passed
-rows-preserved-in_default-passed c =
+pub rows-preserved : goal.rows-preserved
+rows-preserved c =
     let v = c.rows.invariant in
     let l = c.lengths.invariant in
-    let m = among (goal.at.rows-preserved-in_default-passed c).After-next-i in
+    let m = among (goal.at.rows-preserved c).After-next-i in
     let back =
     left_back v.turn _ m c.place_of-at.result c.place_of-at.ensures c.leave_out-above.new.level c.leave_out-above.result
     c.leave_out-above.ensures c.put_back.new.level c.index-asks-i.result c.index-asks-i.is c.put_back.ensures in
@@ -334,10 +334,10 @@ rows-preserved-in_default-passed c =
     }
 
 -- no length of the row in hand is worth a try
-pub rows-preserved : goal.rows-preserved
-rows-preserved c =
+pub rows-preserved-in_default : goal.rows-preserved-in_default
+rows-preserved-in_default c =
     let v = c.rows.invariant in
-    let m = among (goal.at.rows-preserved c).After-next-i in
+    let m = among (goal.at.rows-preserved-in_default c).After-next-i in
     record {
       turn = v.turn;
       period = v.period;
