@@ -16,14 +16,7 @@ pub fn following(jobs: &[u32], i: u32, from: usize) -> usize
     ensures { Following (jobs_of jobs.now) i from result }
 {
     let many = jobs.len() / JOB_WIDTH;
-    let mut k = from;
-    while k < many {
-        if jobs[JOB_WIDTH * k] == i {
-            return k;
-        }
-        k += 1;
-    }
-    k
+    (from..many).find(|&k| jobs[JOB_WIDTH * k] == i).unwrap_or(many)
 }
 
 // Each row's first job, and 0 past the rows.
@@ -32,10 +25,8 @@ pub fn first_jobs(jobs: &[u32], n: usize) -> [usize; 32]
     ensures { Heads (jobs_of jobs.now) n result }
 {
     let mut heads: [usize; 32] = [0; 32];
-    let mut i: usize = 0;
-    while i < n {
+    for i in 0..n {
         heads[i] = following(jobs, i as u32, 0);
-        i += 1;
     }
     heads
 }
@@ -46,14 +37,7 @@ pub fn released(jobs: &[u32], from: usize, t: u32) -> usize
     ensures { Released (jobs_of jobs.now) from t result }
 {
     let many = jobs.len() / JOB_WIDTH;
-    let mut k = from;
-    while k < many {
-        if t < jobs[JOB_WIDTH * k + 1] {
-            return k;
-        }
-        k += 1;
-    }
-    k
+    (from..many).find(|&k| t < jobs[JOB_WIDTH * k + 1]).unwrap_or(many)
 }
 
 // The ticks that a job of row i has executed once it is not locked, or its whole run where it is locked to its end: of
@@ -87,11 +71,9 @@ pub fn by_rank(table: &[u32], plan: &[u32]) -> [usize; 32]
 {
     let n = table.len() / ROW_WIDTH;
     let mut order: [usize; 32] = [0; 32];
-    let mut i: usize = 0;
-    while i < n {
+    for i in 0..n {
         let rank = plan[PLAN_WIDTH * i] as usize;
         order[rank - 1] = i;
-        i += 1;
     }
     order
 }
