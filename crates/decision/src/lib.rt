@@ -10,23 +10,32 @@ ghost use Rattle.decision.specs.inside.Decision.{Ruled};
 
 use tables::{JOB_WIDTH, PLAN_WIDTH, ROW_WIDTH};
 
+// A row's earliest unfinished job, the number of jobs where there is none, and the ticks that it has executed.
+#[derive(Clone, Copy)]
+pub struct Head {
+    pub job: usize,
+    pub done: u32,
+}
+
 // The first job of row i from job `from` on, or the number of jobs.
 pub fn following(jobs: &[u32], i: u32, from: usize) -> usize
     requires { from ≤ (jobs_of jobs.now).N }
     ensures { Following (jobs_of jobs.now) i from result }
 {
     let many = jobs.len() / JOB_WIDTH;
-    (from..many).find(|&k| jobs[JOB_WIDTH * k] == i).unwrap_or(many)
+    (from..many)
+        .find(|&k| jobs[JOB_WIDTH * k] == i)
+        .unwrap_or(many)
 }
 
-// Each row's first job, and 0 past the rows.
-pub fn first_jobs(jobs: &[u32], n: usize) -> [usize; 32]
+// Each row's first job, of which no tick is executed, and 0 past the rows.
+pub fn first_jobs(jobs: &[u32], n: usize) -> [Head; 32]
     requires { n ≤ most_rows }
     ensures { Heads (jobs_of jobs.now) n result }
 {
-    let mut heads: [usize; 32] = [0; 32];
+    let mut heads = [Head { job: 0, done: 0 }; 32];
     for i in 0..n {
-        heads[i] = following(jobs, i as u32, 0);
+        heads[i].job = following(jobs, i as u32, 0);
     }
     heads
 }
@@ -37,7 +46,9 @@ pub fn released(jobs: &[u32], from: usize, t: u32) -> usize
     ensures { Released (jobs_of jobs.now) from t result }
 {
     let many = jobs.len() / JOB_WIDTH;
-    (from..many).find(|&k| t < jobs[JOB_WIDTH * k + 1]).unwrap_or(many)
+    (from..many)
+        .find(|&k| t < jobs[JOB_WIDTH * k + 1])
+        .unwrap_or(many)
 }
 
 // The ticks that a job of row i has executed once it is not locked, or its whole run where it is locked to its end: of
@@ -78,20 +89,12 @@ pub fn by_rank(table: &[u32], plan: &[u32]) -> [usize; 32]
     order
 }
 
-// The first place of the order whose row's earliest unfinished job is released, or the number of rows.
-pub fn foremost(order: &[usize; 32], heads: &[usize; 32], n: usize, next: usize) -> usize
+// The first place of the order whose row's earliest unfinished job is released, if there is one.
+pub fn foremost(order: &[usize; 32], heads: &[Head; 32], n: usize, next: usize) -> Option<usize>
     requires { (n ≤ most_rows) × ((r : ℕ) → r < n → get_or order.now r 0 < n) }
     ensures { Foremost order.now heads.now n next result }
 {
-    let mut r: usize = 0;
-    while r < n {
-        let i = order[r];
-        if heads[i] < next {
-            return r;
-        }
-        r += 1;
-    }
-    r
+    (0..n).find(|&r| heads[order[r]].job < next)
 }
 
 // How far one decision runs a job of row i that has executed e ticks and is not locked: to its end or to the next

@@ -1,8 +1,8 @@
 -- `following` meets its contract: what is found is the first job of row i, and no job before it is.
-use Rattle.std.proofs.Common.{◌≡◌, arith, rules, tests}
+use Rattle.std.proofs.Common.{◌≡◌, rules, tests}
 use Rattle.std.proofs.lemmas.Iterator.{first_from_Range}
 use Rattle.tables.specs.Jobs.{jobs_of}
-use Rattle.decision.proofs.First.{First, first_or_end}
+use Rattle.decision.proofs.First.{first_or_end}
 use Rattle.decision.proofs.following.Goals as goal
 
 pub returns : goal.returns
