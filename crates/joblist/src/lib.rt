@@ -24,24 +24,13 @@ pub fn keeps_alone(table: &[u32], jobs: &[u32], k: usize) -> bool
     ensures { Says result (KeepsAlone (table_of table.now) (jobs_of jobs.now) k) }
 {
     let at = JOB_WIDTH * k;
-    let row = jobs[at];
+    let i = jobs[at] as usize;
     let release = jobs[at + 1];
     let run = jobs[at + 2];
-    let n = table.len() / ROW_WIDTH;
-    let i = row as usize;
-    if n <= i {
-        return false;
-    }
-    if LAST_RELEASE < release {
-        return false;
-    }
-    if run < 1 {
-        return false;
-    }
-    if table[ROW_WIDTH * i] < run {
-        return false;
-    }
-    true
+    i < table.len() / ROW_WIDTH
+        && release <= LAST_RELEASE
+        && 1 <= run
+        && run <= table[ROW_WIDTH * i]
 }
 
 // The earliest release of the row's next job.
@@ -65,8 +54,7 @@ pub fn check_jobs(table: &[u32], jobs: &[u32]) -> Listed
     }
     let mut last: u32 = 0;
     let mut earliest: [u64; 32] = [0; 32];
-    let mut k: usize = 0;
-    while k < many {
+    for k in 0..many {
         if !keeps_alone(table, jobs, k) {
             return Listed::AtFault(k as u32);
         }
@@ -81,7 +69,6 @@ pub fn check_jobs(table: &[u32], jobs: &[u32]) -> Listed
         }
         earliest[i] = after(release, table[ROW_WIDTH * i + 2]);
         last = release;
-        k += 1;
     }
     Listed::WellFormed(many as u32)
 }
