@@ -8,7 +8,7 @@ use lib.Seq.{get_or-set_same, get_or-set_other}
 use Rattle.counting.proofs.Cases.{by_le, by_eq}
 use Rattle.tables.specs.Table.{row_width, table_of}
 use Rattle.tables.specs.inside.Rows.{no, table_in}
-use Rattle.tables.specs.declared.Row.{Row}
+use Rattle.tables.specs.declared.task.Row.{Row}
 
 -- the i-th five numbers of a slice
 abbrev pub row_at : List ℕ → ℕ → Row

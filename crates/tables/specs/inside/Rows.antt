@@ -1,7 +1,7 @@
 -- The task table that stands in an array of row structs, and a slice that its rows may be read from.
 use Rattle.std.specs.Prelude.{ℕ, ◌+◌, ◌-◌, ◌*◌, max, ◌≤◌, ◌<◌, ◌≡◌, List, length, get_or}
 use Rattle.tables.specs.Table.{Table, Sound, row_width, table_of}
-use Rattle.tables.specs.declared.Row.{Row}
+use Rattle.tables.specs.declared.task.Row.{Row}
 
 -- a slice that the checks 1 and 3 have let through: whole rows of a sound table
 pub record SoundSlice (xs : List ℕ) : Type 0 where
