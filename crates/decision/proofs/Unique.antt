@@ -48,13 +48,13 @@ by_rank_unique tb p l m wf a b =
     (λ h. a.past r h ∙ sym (b.past r h))
     (λ h. wf.once (get_or l r 0) (get_or m r 0) (a.row r h) (b.row r h) (a.rank r h ∙ sym (b.rank r h))))
 
-pub foremost_unique : (order : List ℕ) (heads : List Head) (n next : ℕ) (r s : Option ℕ) →
-    Foremost order heads n next r → Foremost order heads n next s → r ≡ s
-foremost_unique order heads n next None None a b = refl
-foremost_unique order heads n next None (Some s) a b = absurd (omega (arith, a s b.high, b.waits))
-foremost_unique order heads n next (Some r) None a b = absurd (omega (arith, b r a.high, a.waits))
-foremost_unique order heads n next (Some r) (Some s) a b =
-    ap Some (one_at_most {E = FirstWaiting order heads n next} (λ r s a b h. omega (arith, a.waits, b.none r h)) r s a b)
+pub foremost_unique : (order : List ℕ) (heads : List Head) (next : ℕ) (r s : Option ℕ) →
+    Foremost order heads next r → Foremost order heads next s → r ≡ s
+foremost_unique order heads next None None a b = refl
+foremost_unique order heads next None (Some s) a b = absurd (omega (arith, a s b.high, b.waits))
+foremost_unique order heads next (Some r) None a b = absurd (omega (arith, b r a.high, a.waits))
+foremost_unique order heads next (Some r) (Some s) a b =
+    ap Some (one_at_most {E = FirstWaiting order heads next} (λ r s a b h. omega (arith, a.waits, b.none r h)) r s a b)
 
 pub held_to_unique : (tb : Table) (p : Plan) (i e run c d : ℕ) → HeldTo tb p i e run c → HeldTo tb p i e run d → c ≡ d
 held_to_unique tb p i e run =

@@ -35,7 +35,8 @@ pub fn check_jobs(tasks: &Tasks, jobs: &[u32]) -> Result<u32, Refusal>
         let at = JOB_WIDTH * k;
         let i = jobs[at] as usize;
         let release = jobs[at + 1];
-        if !keeps_alone(tasks, jobs, k) || release < last || release < earliest[i] {
+        let alone = keeps_alone(tasks, jobs, k);
+        if !alone || release < last || release < earliest[i] {
             return Err(Refusal::Job(k as u32));
         }
         earliest[i] = release + tasks.rows[i].t;

@@ -8,25 +8,25 @@ use Rattle.tables.proofs.Checked.{says_yes, says_no}
 use Rattle.tables.proofs.Clear.{shape_of_jobs}
 use Rattle.joblist.proofs.Walk.{AtFault, walked_none, walked_on, falls, too_close, first_fault}
 use Rattle.joblist.proofs.check_jobs.Goals as goal
-use Rattle.joblist.proofs.check_jobs.Goals.{then-not-keeps_alone-via-then-not-keeps_alone}
-use Rattle.joblist.proofs.check_jobs.Goals.{then-not-keeps_alone-via-else-not-keeps_alone+then-release-last}
-use Rattle.joblist.proofs.check_jobs.Goals.{then-not-keeps_alone-via-else-not-keeps_alone+else-release-last+then-release-earliest}
+use Rattle.joblist.proofs.check_jobs.Goals.{then-not-alone-via-then-not-alone}
+use Rattle.joblist.proofs.check_jobs.Goals.{then-not-alone-via-else-not-alone+then-release-last}
+use Rattle.joblist.proofs.check_jobs.Goals.{then-not-alone-via-else-not-alone+else-release-last+then-release-earliest}
 
 pub loop-k-init : goal.loop-k-init
 loop-k-init c = (omega arith, walked_none _ _)
 
-pub returns-then-not-keeps_alone : goal.returns-then-not-keeps_alone
-returns-then-not-keeps_alone c =
+pub returns-then-not-alone : goal.returns-then-not-alone
+returns-then-not-alone c =
     let js = c.args.jobs.now in
     let walked = c.loop-k.invariant.1 in
     let fault : AtFault (table_in c.args.tasks.now.rows c.args.tasks.now.n) (jobs_of js) c.loop-k.k =
-    elim c.then-not-keeps_alone.branch [
-      | then-not-keeps_alone-via-then-not-keeps_alone w ↦
-          let no = says_no c.keeps_alone.result w.if-not-keeps_alone.true c.keeps_alone.ensures in
+    elim c.then-not-alone.branch [
+      | then-not-alone-via-then-not-alone w ↦
+          let no = says_no c.keeps_alone-alone.result w.if-not-alone.true c.keeps_alone-alone.ensures in
           inl (λ b. no (record { row = b.0; soon = b.1; run_low = b.2; run_high = b.3 }))
-      | then-not-keeps_alone-via-else-not-keeps_alone+then-release-last w ↦
+      | then-not-alone-via-else-not-alone+then-release-last w ↦
           falls walked w.if-release-last.true
-      | then-not-keeps_alone-via-else-not-keeps_alone+else-release-last+then-release-earliest w ↦
+      | then-not-alone-via-else-not-alone+else-release-last+then-release-earliest w ↦
           too_close walked w.if-release-earliest.true
     ] in
     inr (
@@ -36,7 +36,7 @@ returns-then-not-keeps_alone c =
 
 pub loop-k-preserved : goal.loop-k-preserved
 loop-k-preserved c =
-    let alone = says_yes c.keeps_alone.result c.if-not-keeps_alone.false c.keeps_alone.ensures in (
+    let alone = says_yes c.keeps_alone-alone.result c.if-not-alone.false c.keeps_alone-alone.ensures in (
       omega arith,
       walked_on c.loop-k.invariant.1 alone c.if-release-last.false c.if-release-earliest.false
           (omega (arith, c.args.tasks.now.sound.few, alone.row)),
