@@ -37,8 +37,8 @@ impl<'a> Cursor<'a> {
         Ok(())
     }
 
-    // Past a number of least to most, where least is 0 or 1, and the byte that ends it, one of `ends`; or the place up to
-    // which some such number could stand there.
+    // Past a number of least to most, where least is 0 or 1, and the byte that ends it, one of `ends`; or the place up
+    // to which some such number could stand there.
     pub fn number(&mut self, least: u64, most: u64, ends: &[u8]) -> Result<Number, usize>
         requires { (least ≤ 1) × (1 ≤ most) × (most ≤ 1000000000) × (1 ≤ length ends.now)
             × BelowDigits ends.now }

@@ -16,7 +16,8 @@ use Rattle.reading.specs.inside.Read.{Stays}
 use Rattle.reading.specs.declared.Cursor.{Cursor}
 use Rattle.reading.proofs.Numbers.{Over, number_stops, zero_stops, number_grows, reads_end}
 use Rattle.reading.proofs.Cursor.number.Goals as goal
-use Rattle.reading.proofs.Cursor.number.Goals.{else-least-lt1-via-then-least-lt1+else-byte-eq48, else-least-lt1-via-else-least-lt1}
+use Rattle.reading.proofs.Cursor.number.Goals.{else-least-lt1-via-then-least-lt1+else-byte-eq48}
+use Rattle.reading.proofs.Cursor.number.Goals.{else-least-lt1-via-else-least-lt1}
 
 -- the byte at hand, and what stands behind it
 ahead : (text : List ℕ) (at : ℕ) → at < length text → drop at text ≡ get_or text at 0 ∷ drop (at + 1) text
