@@ -13,13 +13,6 @@ value : (a : Answer) → result_unwrap_or a 0 ≡ value_of a
 value (Ok v) = refl
 value (Err r) = refl
 
-pub slice_bounds-result-end : goal.slice_bounds-result-end
-slice_bounds-result-end c =
-    let p = c.print_into in
-    let w = front_within c.args.planned.now c.args.buf.now p.ensures p.auto.buf in
-    let v = value p.result in
-    sym (length-take-le c.unwrap_or-end.result p.new.buf (omega (arith, c.unwrap_or-end.ensures, v, w)))
-
 pub returns : goal.returns
 returns c =
     let v = value c.print_into.result in

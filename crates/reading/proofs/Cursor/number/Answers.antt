@@ -64,12 +64,6 @@ loop-at-preserved c =
     g.0.low g.1.1 g.1.2 (l.invariant.3 ∙ rw (ahead text l.at c.loop-at-test.true)) in
     (l.invariant.0, g.0.high, omega (arith, n.1, l.invariant.2), n.0)
 
-pub end-requires : goal.end-requires
-end-requires c = rw c.loop-at.invariant.0 (omega arith)
-
-pub end-requires-then-byte-eq48 : goal.end-requires-then-byte-eq48
-end-requires-then-byte-eq48 c = rw c.loop-at.invariant.0 (omega arith)
-
 pub returns-then-value-gt0 : goal.returns-then-value-gt0
 returns-then-value-gt0 c =
     let a = c.args in
