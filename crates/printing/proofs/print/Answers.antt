@@ -1,11 +1,9 @@
 -- `print` meets its contract: the front as long as the value that `print_into` answers.
-use mathlib.Core.Path.{◌≡◌, refl, sym}
-use native.Mathlib.Omega.{arith}
-use lib.Seq.{length-take-le}
+use mathlib.Core.Path.{◌≡◌, refl}
 use Rattle.std.proofs.Common.{Ok, Err}
 use Rattle.std.specs.Result.{result_unwrap_or}
 use Rattle.tables.specs.Answer.{Answer, value_of}
-use Rattle.printing.proofs.Answers.{front, front_within}
+use Rattle.printing.proofs.Answers.{front}
 use Rattle.printing.proofs.print.Goals as goal
 
 -- the value of an answer, 0 on a refusal
