@@ -1,21 +1,22 @@
 -- Laws of what the check functions answer.
-use Prim.Native.Nat.{ℕ, ◌*◌, ◌≤◌, ◌<◌}
+use Prim.Native.Nat.{ℕ, ◌+◌, ◌-◌, ◌*◌, ◌≤◌, ◌<◌}
 use mathlib.Core.Path.{◌≡◌, refl, sym, subst}
 use mathlib.Core.Bool.{Bool, true, false}
 use mathlib.Core.Logic.{◌⊎◌, ◌↔◌, inl, inr, ⊎_elim}
-use mathlib.Core.List.{List}
+use mathlib.Core.List.{List, [], ◌∷◌}
 use native.Mathlib.Omega.{arith}
+use Rattle.std.proofs.Common.{Some, None}
 use lib.ListN.{length, get_or}
 use Rattle.counting.specs.Least.{Least}
 use Rattle.counting.proofs.Cases.{by_le, by_eq, not_both}
-use Rattle.tables.specs.Table.{Table, table_of}
+use Rattle.tables.specs.Table.{Table, row_width, table_of}
 use Rattle.tables.specs.Plan.{Plan, plan_width, plan_of}
 use Rattle.tables.specs.Refusal.{Clear}
 use Rattle.tables.specs.Checks.{NumberAtFault, RankAtFault, RowAtFault, range, plan_form}
-use Rattle.tables.specs.inside.Rows.{no, table_in, LengthAtFaultIn}
-use Rattle.tables.specs.inside.Checked.{Says}
+use Rattle.tables.specs.inside.Rows.{no, row_at, table_in, LengthAtFaultIn}
+use Rattle.tables.specs.inside.Checked.{Says, FaultInRow}
 use Rattle.tables.specs.declared.task.Row.{Row}
-use Rattle.tables.proofs.Numbers.{number_in}
+use Rattle.tables.proofs.Numbers.{by_number, number_in}
 use Rattle.tables.proofs.Plan.{cap_in_lem}
 
 -- the same question, put in another way
@@ -35,6 +36,42 @@ says_no false e n = n
 pub first_here : {E : ℕ → Type 0} (i : ℕ) → E i → ((j : ℕ) → j < i → E j → ⊥) → Least E 0 i
 first_here i e none =
     record { low = omega arith; holds = e; least = λ u _ g. by_le i u (λ l. l) (λ l. absurd (none u l g)) }
+
+-- which number of a row is at fault, counted in the row and in the slice
+module _ (xs : List ℕ) (i : ℕ) where
+  abbrev one : Table
+  one = table_in (row_at xs i ∷ []) 1
+
+  out : (k : ℕ) → NumberAtFault one 0 k → NumberAtFault (table_of xs) i (row_width * i + k)
+  out k =
+      by_number one 0
+      (λ e f. inl (omega arith, f))
+      (λ e f. inr (inl (omega arith, f)))
+      (λ e f. inr (inr (inl (omega arith, f))))
+      (λ e f. inr (inr (inr (inl (omega arith, f)))))
+      (λ e f. inr (inr (inr (inr (omega arith, f)))))
+
+  back : (at : ℕ) → NumberAtFault (table_of xs) i at → NumberAtFault one 0 (at - row_width * i)
+  back at =
+      by_number (table_of xs) i
+      (λ e f. inl (omega arith, f))
+      (λ e f. inr (inl (omega arith, f)))
+      (λ e f. inr (inr (inl (omega arith, f))))
+      (λ e f. inr (inr (inr (inl (omega arith, f)))))
+      (λ e f. inr (inr (inr (inr (omega arith, f)))))
+
+  pub row_clear : FaultInRow one 0 None → FaultInRow (table_of xs) i None
+  row_clear none at f = none (at - row_width * i) (back at f)
+
+  pub row_hit : (k : ℕ) → FaultInRow one 0 (Some k) → FaultInRow (table_of xs) i (Some (row_width * i + k))
+  row_hit k f =
+      record {
+        low = omega arith;
+        holds = out k f.holds;
+        least =
+            λ u _ e.
+            omega (arith, f.least (u - row_width * i) (omega arith) (back u e), number_in (table_of xs) i e);
+      }
 
 -- the check 3 is clear where no number of a row is at fault, and hits at the first one that is
 module _ (xs : List ℕ) where

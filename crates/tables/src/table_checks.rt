@@ -1,6 +1,6 @@
 // The checks 1 and 3, of a slice that is to be a task table.
 
-ghost use Rattle.std.specs.Prelude.{◌≡◌, ◌*◌, ◌<◌, ◌≤◌, length};
+ghost use Rattle.std.specs.Prelude.{◌≡◌, ◌*◌, ◌≤◌, [], ◌∷◌, length};
 ghost use Rattle.tables.specs.Table.{Within, table_of, row_width, most_rows};
 ghost use Rattle.tables.specs.Checks.{StartAtFault, RegionAtFault};
 ghost use Rattle.tables.specs.inside.Rows.{table_in};
@@ -29,29 +29,24 @@ fn region_at_fault(c: u32, start: u32, region: u32) -> bool
     0 < region && c.saturating_sub(start) <= region
 }
 
-// The index of the first number of row i that is at fault, where one is.
-fn fault_in_row(table: &[u32], i: usize) -> Option<usize>
-    requires { i < (table_of table.now).n }
-    ensures { FaultInRow (table_of table.now) i result }
+// Which of a row's five numbers is the first at fault, where one is.
+fn fault_in_row(row: Row) -> Option<usize>
+    ensures { FaultInRow (table_in (row ∷ []) 1) 0 result }
 {
-    let at = ROW_WIDTH * i;
-    let c = table[at];
-    let start = table[at + 3];
-    let region = table[at + 4];
-    if outside(c) {
-        return Some(at);
+    if outside(row.c) {
+        return Some(0);
     }
-    if outside(table[at + 1]) {
-        return Some(at + 1);
+    if outside(row.d) {
+        return Some(1);
     }
-    if outside(table[at + 2]) {
-        return Some(at + 2);
+    if outside(row.t) {
+        return Some(2);
     }
-    if start_at_fault(start, region) {
-        return Some(at + 3);
+    if start_at_fault(row.start, row.region) {
+        return Some(3);
     }
-    if region_at_fault(c, start, region) {
-        return Some(at + 4);
+    if region_at_fault(row.c, row.start, row.region) {
+        return Some(4);
     }
     None
 }
@@ -60,35 +55,25 @@ fn fault_in_row(table: &[u32], i: usize) -> Option<usize>
 fn first_fault(table: &[u32]) -> Option<usize>
     ensures { FirstFault table.now result }
 {
-    for i in 0..table.len() / ROW_WIDTH {
-        if let Some(at) = fault_in_row(table, i) {
-            return Some(at);
+    let (fives, _) = table.as_chunks::<ROW_WIDTH>();
+    for (i, five) in fives.iter().enumerate() {
+        if let Some(k) = fault_in_row(Row::from(*five)) {
+            return Some(ROW_WIDTH * i + k);
         }
     }
     None
 }
 
 // The rows of a task table; past its n rows stand zeros.
-fn rows_of(table: &[u32], n: usize) -> [Row; MOST_ROWS]
-    requires { (n ≤ most_rows) × (length table.now ≡ row_width * n) }
-    ensures { table_in result n ≡ table_of table.now }
+fn rows_of(table: &[u32]) -> [Row; MOST_ROWS]
+    requires whole { length table.now ≡ row_width * (table_of table.now).n }
+    requires few { (table_of table.now).n ≤ most_rows }
+    ensures { table_in result (table_of table.now).n ≡ table_of table.now }
 {
-    let mut rows = [Row {
-        c: 0,
-        d: 0,
-        t: 0,
-        start: 0,
-        region: 0,
-    }; MOST_ROWS];
-    for i in 0..n {
-        let at = ROW_WIDTH * i;
-        rows[i] = Row {
-            c: table[at],
-            d: table[at + 1],
-            t: table[at + 2],
-            start: table[at + 3],
-            region: table[at + 4],
-        };
+    let (fives, _) = table.as_chunks::<ROW_WIDTH>();
+    let mut rows = [Row::default(); MOST_ROWS];
+    for (row, five) in fives.iter().enumerate() {
+        rows[row] = Row::from(*five);
     }
     rows
 }
@@ -104,9 +89,8 @@ pub fn check_table(table: &[u32]) -> Result<Tasks, Refusal>
     if let Some(at) = first_fault(table) {
         return Err(Refusal::Range(at as u32));
     }
-    let n = len / ROW_WIDTH;
     Ok(Tasks {
-        rows: rows_of(table, n),
-        n,
+        rows: rows_of(table),
+        n: len / ROW_WIDTH,
     })
 }

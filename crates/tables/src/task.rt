@@ -4,16 +4,32 @@ ghost use Rattle.std.specs.Prelude.{◌≡◌};
 ghost use Rattle.tables.specs.Table.{Sound};
 ghost use Rattle.tables.specs.inside.Rows.{table_in, cap_in, longer_in, EndsBeforeRun};
 
-use crate::MOST_ROWS;
+use crate::{MOST_ROWS, ROW_WIDTH};
 
 // One row of a task table: its run, deadline and spacing, and the start and the length of its middle region.
-#[derive(Clone, Copy)]
+#[derive(Clone, Copy, Default)]
 pub struct Row {
     pub c: u32,
     pub d: u32,
     pub t: u32,
     pub start: u32,
     pub region: u32,
+}
+
+impl From<[u32; ROW_WIDTH]> for Row {
+    ghost use Rattle.tables.specs.inside.Rows.{row_at};
+
+    ghost from_gives = { λ five row. row ≡ row_at five 0 };
+
+    fn from([c, d, t, start, region]: [u32; ROW_WIDTH]) -> Row {
+        Row {
+            c,
+            d,
+            t,
+            start,
+            region,
+        }
+    }
 }
 
 // A sound task table: its n rows, and zeros past them.

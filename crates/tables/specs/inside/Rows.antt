@@ -12,6 +12,17 @@ pub record SoundSlice (xs : List ℕ) : Type 0 where
 abbrev pub no : Row
 no = record { c = 0; d = 0; t = 0; start = 0; region = 0 }
 
+-- the i-th five numbers of a slice
+abbrev pub row_at : List ℕ → ℕ → Row
+row_at xs i =
+    record {
+      c = get_or xs (row_width * i) 0;
+      d = get_or xs (row_width * i + 1) 0;
+      t = get_or xs (row_width * i + 2) 0;
+      start = get_or xs (row_width * i + 3) 0;
+      region = get_or xs (row_width * i + 4) 0;
+    }
+
 -- the table of the first n rows
 abbrev pub table_in : List Row → ℕ → Table
 table_in rows n =
