@@ -32,7 +32,8 @@ pub fn asks_of(tasks: &Tasks) -> [Ask; MOST_ROWS]
 pub fn level_of<T: Copy>(asks: &[T], set: u32, level: &mut [T]) -> usize
     requires { (length asks.now ≤ most_rows) × ((j : ℕ) → marked set j ≡ true → j < length asks.now)
         × (length level.old ≡ most_rows) }
-    ensures { (none : T) → Picked none asks.now (marked set) level.old level.new result }
+    ensures few { result ≤ most_rows }
+    ensures packed { (none : T) → Picked none asks.now (marked set) level.old level.new result }
 {
     for (m, j) in marks::rows(set).enumerate() {
         level[m] = asks[j as usize];
@@ -59,7 +60,8 @@ pub fn again_of(asks: &[Ask], t: u32) -> u32
 // are left.
 pub fn leave_out<T: Copy>(level: &mut [T], m: usize, at: Option<usize>) -> usize
     requires { (m ≤ most_rows) × (length level.old ≡ most_rows) × IfSome at (λ p. p < m) }
-    ensures { (none : T) → Vacated none at level.old m level.new result }
+    ensures fewer { result ≤ m }
+    ensures left { (none : T) → Vacated none at level.old m level.new result }
 {
     match at {
         Some(p) => {

@@ -3,6 +3,9 @@ use Prim.Native.Nat.{◌<◌}
 use native.Mathlib.Omega.{arith}
 use lib.ListN.{length}
 use borrow.Author.Rules.{rules}
+use Rattle.counting.proofs.Sum.{count_le}
+use Rattle.marks.specs.inside.Marks.{marked}
+use Rattle.tables.specs.Table.{most_rows}
 use Rattle.sides.proofs.Pack.{packing_none, packing_room, packing_more, packing_all, packed_size}
 use Rattle.sides.proofs.Rows.{read_is}
 use Rattle.sides.proofs.level_of.Goals as goal
@@ -28,8 +31,11 @@ loop-m-preserved g c =
     rw (s.1, s.2)
     (packing_more _ _ c.requires.0 w s.0.0 _ (λ none. read_is c.args.asks.now _ none (w.inside _ s.0.0.first.holds) c.index-asks-j.is) s.0.1)
 
-pub returns : goal.returns
-returns g c =
+pub returns-clause-packed : goal.returns-clause-packed
+returns-clause-packed g c =
     λ none.
     let all = packing_all _ _ c.requires.0 c.loop-m.invariant c.in-None.ensures.steps.0.0 none in
     rw (c.size.ensures, packed_size c.args.set all c.requires.0 c.requires.1) all
+
+pub returns-clause-few : goal.returns-clause-few
+returns-clause-few g c = omega (arith, c.size.ensures, count_le (marked c.args.set) most_rows)
