@@ -1,10 +1,10 @@
 -- The two levels of a ranked row: of it and the rows above it, whose right side gives its active period; and of those
 -- above it alone, whose right sides give its starts.
-use Rattle.std.proofs.Common.{ℕ, suc, ◌+◌, ◌-◌, ◌*◌, ◌≤◌, ◌<◌, ◌≡◌, List, length, take, Some, arith}
+use Rattle.std.proofs.Common.{ℕ, suc, ◌+◌, ◌-◌, ◌*◌, ◌≤◌, ◌<◌, ◌≡◌, List, length, take, Option, IfSome, arith}
 use Rattle.std.proofs.Common.{sym, ap, ◌∙◌, subst}
 use Rattle.counting.specs.Up.{up}
-use Rattle.counting.specs.Sum.{count, without}
-use Rattle.marks.specs.inside.Marks.{marked, More}
+use Rattle.counting.specs.Sum.{without}
+use Rattle.marks.specs.inside.Marks.{marked, Placed, More}
 use Rattle.tables.specs.Table.{Table, most_rows}
 use Rattle.test.specs.Test.{horizon, jobs, Start, active_side, Response}
 use Rattle.sides.specs.declared.ask.Ask.{Ask}
@@ -12,12 +12,12 @@ use Rattle.sides.specs.inside.Level.{runs_of, active_of, start_of, Packed, LeftO
 use Rattle.sides.specs.inside.Found.{Fixed, FixedWithin}
 use Rattle.sides.proofs.Level.{Asking}
 use Rattle.sides.proofs.Asking.{asking_held, asking_packed, all_again, runs_packed}
-use Rattle.sides.proofs.Left.{place_inside, left_whole, left_others}
+use Rattle.sides.proofs.Left.{place_within, left_whole, left_others}
 use Rattle.sides.proofs.Lower.{start_within, start_found}
 use Rattle.responses.specs.inside.Asked.{Ranked}
 use Rattle.responses.proofs.Jobs.{Job, length_first, job_exists, job_base, base_within, job_known}
 use Rattle.responses.proofs.Largest.{Passed, passed_all}
-use Rattle.responses.proofs.Ranked.{positive, rows, working, own, others, first, within, found}
+use Rattle.responses.proofs.Ranked.{positive, rows, working, others, first, within, found}
 
 -- the m rows of the set `all`, which are row i and those of a set without it, stand at the front of the level
 pub record Levelled (asks : List Ask) (set i all m : ℕ) (level : List Ask) : Type 0 where
@@ -37,8 +37,8 @@ module _ {tb : Table} {asks : List Ask} {set b i q : ℕ} (r : Ranked tb asks se
     row_inside : i < length asks
     row_inside = omega (arith, r.row, rows r)
 
-    pub place_fits : count (marked all) i < m
-    place_fits = place_inside v.packed v.whole i row_inside (own r all v.more)
+    pub place_fits : (at : Option ℕ) → Placed all i at → IfSome at (λ p. p < m)
+    place_fits = place_within all v.packed v.whole i row_inside
 
     -- what is asked for in the first tick
     module _ {runs : ℕ} (e : runs ≡ runs_of (take m level)) where
@@ -60,19 +60,13 @@ module _ {tb : Table} {asks : List Ask} {set b i q : ℕ} (r : Ranked tb asks se
       jobs_are f e = omega (arith, e, ap (jobs tb (marked set) b i) (period_is f))
 
     -- the row left out
-    module _ {place rest : ℕ} {left : List Ask} (at : place ≡ count (marked all) i)
-        (out : LeftOut (Some place) level m left rest)
-      where
-        above_whole : length left ≡ most_rows
-        above_whole = left_whole all v.packed v.whole i row_inside (Some place) left rest out
-
-        pub above_asks : Asking tb (marked set) (horizon + 1) (take rest left)
-        above_asks =
-            let held = left_others all v.packed v.whole i row_inside (Some place) left rest
-            (own r all v.more, at) out in
-            subst (λ P. Asking tb P (horizon + 1) (take rest left)) (sym (others r all v.more))
-            (asking_held r.sound r.asked (omega arith) (all_again r.sound r.asked (without (marked all) i))
-            above_whole held)
+    pub above_asks : (at : Option ℕ) (rest : ℕ) (left : List Ask) → Placed all i at → LeftOut at level m left rest →
+        Asking tb (marked set) (horizon + 1) (take rest left)
+    above_asks at rest left here out =
+        let held = left_others all v.packed v.whole i row_inside at left rest here out in
+        subst (λ P. Asking tb P (horizon + 1) (take rest left)) (sym (others r all v.more))
+        (asking_held r.sound r.asked (omega arith) (all_again r.sound r.asked (without (marked all) i))
+        (left_whole all v.packed v.whole i row_inside at left rest out) held)
 
 -- what is known of row i when its starts are looked for: what is asked for in the first tick, how many jobs it has, and
 -- the level of the m rows above

@@ -50,8 +50,8 @@ fn response(tasks: &Tasks, asks: &[Ask], level: &mut [Ask], placed: Placed) -> u
     let first = placed.blocking + sides::runs_of(&level[..all]);
     let period = active_period(&level[..all], first);
     let jobs = counting::round_up(period as u64, row.t as u64) as u32;
-    let at = marks::place(with_own, i as u32) as usize;
-    let higher = sides::leave_out(level, all, Some(at));
+    let at = marks::place_of(with_own, i as u32);
+    let higher = sides::leave_out(level, all, at);
     let mut largest: u32 = 0;
     let mut low = first - len;
     for k in 0..jobs {

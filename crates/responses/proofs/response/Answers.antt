@@ -37,7 +37,7 @@ ready c =
     record {
       first_is = first_is c.requires.0 v c.runs_of.ensures;
       jobs_are = jobs_are c.requires.0 v c.runs_of.ensures c.active_period-period.ensures c.round_up-jobs.ensures;
-      asking = above_asks c.requires.0 v c.place-at.ensures (c.leave_out-higher.ensures.left nothing);
+      asking = above_asks c.requires.0 v _ _ _ c.place_of-at.ensures (c.leave_out-higher.ensures.left nothing);
     }
 
 pub runs_of-requires : goal.runs_of-requires
@@ -62,7 +62,7 @@ overflow_cast-jobs c =
 pub leave_out-higher-requires : goal.leave_out-higher-requires
 leave_out-higher-requires c =
     let v = levelled (goal.at.leave_out-higher-requires c).After-level_of-all in
-    (c.level_of-all.ensures.few, v.whole, omega (arith, c.place-at.ensures, place_fits c.requires.0 v))
+    (c.level_of-all.ensures.few, v.whole, place_fits c.requires.0 v _ c.place_of-at.ensures)
 
 pub overflow_sub-low : goal.overflow_sub-low
 overflow_sub-low c = omega (arith, length_fits (ready (goal.at.overflow_sub-low c).After-leave_out-higher))
