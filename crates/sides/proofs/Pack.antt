@@ -103,8 +103,8 @@ module _ {A : Type 0} (asks : List A) (all : ℕ) (few : length asks ≤ most_ro
           omega (arith, count_without Q j k (by_eq k j (λ z. absurd (ne z)) (λ z. omega arith)) n.first.holds))
 
       -- there is room for it
-      pub packing_room : m < most_rows
-      packing_room = omega (arith, w.many, fewer, count_le (marked all) (length asks))
+      pub packing_fits : m < length level
+      packing_fits = omega (arith, w.whole, w.many, fewer, count_le (marked all) (length asks))
 
       module _ (none : A) where
         abbrev a : A
@@ -129,7 +129,7 @@ module _ {A : Type 0} (asks : List A) (all : ℕ) (few : length asks ≤ most_ro
             let old = over_same none (set level m a) level m
             (λ p q. get_or-set_other level m p a none (λ e. omega arith)) f in
             let new : f m (get_or (set level m a) m none) ≡ f m a =
-            ap (f m) (get_or-set_same level m a none (omega (arith, w.whole, packing_room))) in
+            ap (f m) (get_or-set_same level m a none packing_fits) in
             omega (arith, w.total none f, over_more none (set level m a) m f, taken f)
 
       pub packing_more : {r : ℕ} (x : A) → ((none : A) → x ≡ get_or asks j none) → Less rest j r →

@@ -6,7 +6,7 @@ use borrow.Author.Rules.{rules}
 use Rattle.counting.proofs.Sum.{count_le}
 use Rattle.marks.specs.inside.Marks.{marked}
 use Rattle.tables.specs.Table.{most_rows}
-use Rattle.sides.proofs.Pack.{packing_none, packing_room, packing_more, packing_all, packed_size}
+use Rattle.sides.proofs.Pack.{packing_none, packing_fits, packing_more, packing_all, packed_size}
 use Rattle.sides.proofs.Rows.{read_is}
 use Rattle.sides.proofs.level_of.Goals as goal
 
@@ -19,17 +19,22 @@ loop-m-init g c =
 pub bounds-level-m : goal.bounds-level-m
 bounds-level-m g c =
     let s = c.in-Some.ensures.steps in
-    omega (arith, s.1, packing_room _ _ c.requires.0 c.loop-m.invariant s.0.0, c.loop-m.invariant.whole)
+    omega (arith, s.1, packing_fits _ _ c.requires.0 c.loop-m.invariant s.0.0)
 
 pub offset_bounds-level-m : goal.offset_bounds-level-m
-offset_bounds-level-m g c = let h : c.in-Some.m < length c.loop-m.level = bounds-level-m g c in search rules
+offset_bounds-level-m g c =
+    let s = c.in-Some.ensures.steps in
+    let h : c.in-Some.m < length c.loop-m.level =
+    omega (arith, s.1, packing_fits _ _ c.requires.0 c.loop-m.invariant s.0.0) in
+    search rules
 
 pub loop-m-preserved : goal.loop-m-preserved
 loop-m-preserved g c =
     let s = c.in-Some.ensures.steps in
     let w = c.loop-m.invariant in
     rw (s.1, s.2)
-    (packing_more _ _ c.requires.0 w s.0.0 _ (λ none. read_is c.args.asks.now _ none (w.inside _ s.0.0.first.holds) c.index-asks-j.is) s.0.1)
+    (packing_more _ _ c.requires.0 w s.0.0 _
+    (λ none. read_is c.args.asks.now _ none (w.inside _ s.0.0.first.holds) c.index-asks-j.is) s.0.1)
 
 pub returns-clause-packed : goal.returns-clause-packed
 returns-clause-packed g c =
