@@ -40,9 +40,6 @@ ready c =
       asking = above_asks c.requires.0 v _ _ _ c.place_of-at.ensures (c.leave_out-higher.ensures.left nothing);
     }
 
-pub runs_of-requires : goal.runs_of-requires
-runs_of-requires c = (level_asks c.requires.0 (levelled (goal.at.runs_of-requires c).After-level_of-all)).few
-
 pub overflow_add-first : goal.overflow_add-first
 overflow_add-first c =
     let w = period_within c.requires.0 (levelled (goal.at.overflow_add-first c).After-level_of-all) c.runs_of.ensures in
