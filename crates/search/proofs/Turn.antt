@@ -12,6 +12,8 @@ use Rattle.marks.specs.inside.Marks.{marked, Both}
 use Rattle.marks.proofs.Marks.{something}
 use Rattle.tables.specs.Table.{Table, SoundRow, most_rows}
 use Rattle.tables.specs.Plan.{cap}
+use Rattle.tables.specs.inside.Rows.{table_in}
+use Rattle.tables.specs.declared.task.Tasks.{Tasks}
 use Rattle.tables.proofs.Plan.{cap_run}
 use Rattle.test.specs.Test.{horizon, upto, load, Active, active_side}
 use Rattle.test.proofs.Load.{Positive}
@@ -27,6 +29,10 @@ use Rattle.sides.proofs.Rows.{read_is}
 use Rattle.responses.proofs.Jobs.{Working}
 use Rattle.search.proofs.Period.{Searchable, positive, period_within, period_first, period_exists, period_found}
 use Rattle.search.proofs.Period.{kept_without}
+
+-- the table that tasks hold
+abbrev pub table : Tasks → Table
+table tasks = table_in tasks.rows tasks.n
 
 -- row i is tried, with the rows at which P passes above it: they ask for `first` in the first tick, and L is its active
 -- period, within the bound
