@@ -58,7 +58,7 @@ turn c =
       both = c.both-packed.ensures;
       before = c.ranks.level;
       packed = c.level_of-all.ensures;
-      whole = c.level_of-all.auto.level ∙ c.ranks.invariant.level;
+      whole = c.level_of-all.auto.level ∙ c.both-packed.array_long;
       first_is = refl;
     }
 
@@ -67,7 +67,6 @@ ranks-init c =
     let sound = c.args.tasks.sound in
     record {
       going = going_first _ sound c.whole-unplaced.result c.whole-unplaced.ensures;
-      level = refl;
       runs = c.runs_of-runs.ensures ∙ runs_first c.whole-unplaced.result sound c.requires.2 c.whole-unplaced.ensures;
     }
 
@@ -403,12 +402,6 @@ ranks-preserved c =
           rw c.size-rank.ensures
           (going_more _ pos c.ranks.invariant.going (row_inside g) (takes g) k.timed c.less-unplaced.ensures k.blocks_with
           c.max-blocking.ensures);
-      level =
-          elim c.rows-test.branch [
-            | else-rows-test w ↦ rw w.level-is c.rows.invariant.turn.whole
-            | then-rows-test+in-Some+else-lengths-test+in-Some-passed+then-longer-eq1 w ↦
-                rw w.level-is (w.put_back.auto.level ∙ w.lengths.invariant.above.whole)
-          ];
       runs =
           ap (λ x. c.ranks.runs - x) (read_run c.index-asks-placed.result c.requires.2 k.row)
           ∙ runs_more pos c.ranks.unplaced c.ranks.invariant.runs k.row k.try c.less-unplaced.ensures;

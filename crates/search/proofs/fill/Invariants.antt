@@ -1,10 +1,9 @@
 -- What holds while `fill` goes over the ranks, the rows, the lengths and the jobs, and how each loop ends.
 use Prim.Native.Nat.{◌+◌, ◌-◌, ◌≤◌, ◌<◌}
 use mathlib.Core.Path.{◌≡◌}
-use lib.ListN.{length, take}
+use lib.ListN.{take}
 use Rattle.counting.specs.Sum.{without}
 use Rattle.marks.specs.inside.Marks.{marked}
-use Rattle.tables.specs.Table.{most_rows}
 use Rattle.tables.specs.Plan.{cap}
 use Rattle.test.specs.Test.{horizon, upto, load, jobs}
 use Rattle.sides.specs.inside.Level.{active_of}
@@ -63,7 +62,6 @@ abbrev pub invariant-ranks : goal.invariant-ranks
 invariant-ranks l =
     record {
       going : Going (table l.tasks) l.plan l.times l.unplaced l.blocking;
-      level : length l.level ≡ most_rows;
       runs : l.runs ≡ load upto (table l.tasks) (marked l.unplaced) 0;
     }
 
