@@ -8,7 +8,7 @@ use Rattle.std.specs.Prelude.{Option, Some, None, IfSome}
 use lib.Count.{count_trailing_zeros}
 use lib.ListN.{length, get_or, take}
 use Rattle.counting.specs.Sum.{without}
-use Rattle.marks.specs.inside.Marks.{marked, Both}
+use Rattle.marks.specs.inside.Marks.{marked, Both, Placed}
 use Rattle.marks.proofs.Marks.{something}
 use Rattle.tables.specs.Table.{Table, SoundRow, most_rows}
 use Rattle.tables.specs.Plan.{cap}
@@ -17,7 +17,6 @@ use Rattle.tables.specs.declared.task.Tasks.{Tasks}
 use Rattle.tables.proofs.Plan.{cap_run}
 use Rattle.test.specs.Test.{horizon, upto, load, Active, active_side}
 use Rattle.test.proofs.Load.{Positive}
-use Rattle.marks.specs.inside.Marks.{Placed}
 use Rattle.sides.specs.inside.Asks.{again}
 use Rattle.sides.specs.declared.ask.Ask.{Ask}
 use Rattle.sides.specs.inside.Level.{active_of, Packed, LeftOut, PutBack}
@@ -101,7 +100,8 @@ module _ {tb : Table} {asks : List Ask} {unplaced repeats b runs bound set : ℕ
 
   pub turn_period : FixedWithin (active_of (take m level) first) 1 first
   turn_period =
-      period_exists t.search (count_trailing_zeros unplaced unplaced) (something unplaced t.search.some) asking asks_runs
+      let some = something unplaced t.search.some in
+      period_exists t.search (count_trailing_zeros unplaced unplaced) some asking asks_runs
 
   -- row i is taken in hand
   module _ (i : ℕ) (among : U i ≡ true) where

@@ -1,5 +1,5 @@
-// The rank search: the ranks filled from n down to 1, each by the unplaced row that blocks with the least at its shortest
-// passing length, the earliest among equals; until every row is placed or no row has a passing length.
+// The rank search: the ranks filled from n down to 1, each by the unplaced row that blocks with the least at its
+// shortest passing length, the earliest among equals; until every row is placed or no row has a passing length.
 #![tactic(auto)]
 
 ghost use Rattle.std.specs.Prelude.{◌≡◌, ◌+◌, ◌*◌, ◌≤◌, ◌<◌};

@@ -1,5 +1,5 @@
 -- `fill` meets its contract: at each goal what is known is one law of Turn, Lengths, Trial, Seen, Runs or Going.
-use Prim.Native.Nat.{◌≤◌, ◌<◌, ◌+◌, ◌-◌}
+use Prim.Native.Nat.{ℕ, ◌≤◌, ◌<◌, ◌+◌, ◌-◌}
 use mathlib.Core.Path.{◌≡◌, refl, sym, ap, ◌∙◌}
 use mathlib.Core.Bool.{true}
 use native.Mathlib.Omega.{arith}
@@ -10,8 +10,9 @@ use Rattle.counting.specs.Sum.{without}
 use Rattle.marks.specs.inside.Marks.{marked}
 use Rattle.marks.proofs.Marks.{count_something}
 use Rattle.tables.specs.Table.{most_rows}
-use Rattle.tables.specs.Plan.{cap}
-use Rattle.tables.specs.inside.Rows.{no}
+use Rattle.tables.specs.Plan.{cap, longer}
+use Rattle.tables.specs.declared.task.Tasks.{Tasks}
+use Rattle.tables.specs.inside.Rows.{no, longer_in}
 use Rattle.tables.proofs.Plan.{cap_in_lem, longer_in_lem, longer_ge}
 use Rattle.test.specs.Test.{upto, start_side}
 use Rattle.test.proofs.Load.{sound_positive}
@@ -19,7 +20,8 @@ use Rattle.choice.specs.Choice.{Takes}
 use Rattle.sides.specs.inside.Level.{start_of}
 use Rattle.sides.proofs.Again.{again_asked}
 use Rattle.responses.proofs.Jobs.{Working, length_first, base_within}
-use Rattle.search.proofs.Turn.{table, Turn, Hand, turn_level, turn_period, turn_hand, hand_works, place_fits, place_in_room, left_level, left_back}
+use Rattle.search.proofs.Turn.{table, Turn, Hand, turn_level, turn_period, turn_hand, hand_works}
+use Rattle.search.proofs.Turn.{place_fits, place_in_room, left_level, left_back}
 use Rattle.search.proofs.Lengths.{Tested, Narrowed, narrowed_first, narrowed_fits, narrowed_misses}
 use Rattle.search.proofs.Trial.{trial_first, trial_within, trial_released, trial_last, trial_more, trial_side}
 use Rattle.search.proofs.Trial.{trial_again, trial_misses, trial_after, trial_next, trial_passes}
@@ -52,7 +54,8 @@ turn c =
             busy = busy;
             within = c.requires.1;
             room = going_room _ (sound_positive _ sound) c.ranks.invariant.going;
-            repeat = again_asked c.again_of-again.result sound c.requires.2 busy.low c.requires.1 c.again_of-again.ensures;
+            repeat =
+                again_asked c.again_of-again.result sound c.requires.2 busy.low c.requires.1 c.again_of-again.ensures;
             first = c.ranks.invariant.runs;
           };
       both = c.both-packed.ensures;
@@ -285,6 +288,10 @@ put_back-requires c =
       place_in_room c.rows.invariant.turn _ m c.place_of-at.result c.place_of-at.ensures,
     )
 
+-- what the row in hand blocks with
+blocks_with : (tasks : Tasks) (i q : ℕ) {m : ℕ} → m ≡ longer_in (get_or tasks.rows i no) q → m ≡ longer (table tasks) i q
+blocks_with tasks i q e = e ∙ sym (longer_in_lem tasks.rows tasks.n i q)
+
 -- the level is that of the rank again
 restored : (c : After-put_back) → c.put_back.new.level ≡ c.rows.level
 restored c =
@@ -304,7 +311,7 @@ rows-preserved-else-longer-eq1 c =
       seen =
           seen_better c.rows.best v.seen c.next-i.ensures c.less-rest.ensures l.hand.row l.top l.narrowed
           c.lengths-test.false (rw c.in-Some-passed.is at l.narrowed.found)
-          (c.longer-longer.ensures ∙ sym (longer_in_lem c.args.tasks.rows c.args.tasks.n c.next-i.result c.lengths.high));
+          (blocks_with c.args.tasks c.next-i.result c.lengths.high c.longer-longer.ensures);
     }
 
 pub rows-preserved : goal.rows-preserved
@@ -360,9 +367,9 @@ seen c =
           let l = w.lengths.invariant in
           rw (sym c.in-Some-best.is ∙ w.best-is)
           (seen_one w.if-longer-eq1.true
-          (seen_better c.rows.best c.rows.invariant.seen w.next-i.ensures w.less-rest.ensures l.hand.row l.top l.narrowed
-          w.lengths-test.false (rw w.in-Some-passed.is at l.narrowed.found)
-          (w.longer-longer.ensures ∙ sym (longer_in_lem c.args.tasks.rows c.args.tasks.n w.next-i.result w.lengths.high))))
+          (seen_better c.rows.best c.rows.invariant.seen w.next-i.ensures w.less-rest.ensures l.hand.row l.top
+          l.narrowed w.lengths-test.false (rw w.in-Some-passed.is at l.narrowed.found)
+          (blocks_with c.args.tasks w.next-i.result w.lengths.high w.longer-longer.ensures)))
     ]
 
 takes : (c : In-Some-best) →
@@ -400,8 +407,8 @@ ranks-preserved c =
     record {
       going =
           rw c.size-rank.ensures
-          (going_more _ pos c.ranks.invariant.going (row_inside g) (takes g) k.timed c.less-unplaced.ensures k.blocks_with
-          c.max-blocking.ensures);
+          (going_more _ pos c.ranks.invariant.going (row_inside g) (takes g) k.timed c.less-unplaced.ensures
+          k.blocks_with c.max-blocking.ensures);
       runs =
           ap (λ x. c.ranks.runs - x) (read_run c.index-asks-placed.result c.requires.2 k.row)
           ∙ runs_more pos c.ranks.unplaced c.ranks.invariant.runs k.row k.try c.less-unplaced.ensures;
