@@ -64,8 +64,10 @@ pub fn fill(tasks: Tasks, asks: &[Ask], busy: u32) -> Result<Filled, u32>
         × Asks (table_in tasks.rows tasks.n) asks.now }
     ensures { Ended (table_in tasks.rows tasks.n) result }
 {
-    let mut plan = [0u32; PLAN_WIDTH * MOST_ROWS];
-    let mut times = [0u32; MOST_ROWS];
+    let mut filled = Filled {
+        plan: [0; PLAN_WIDTH * MOST_ROWS],
+        times: [0; MOST_ROWS],
+    };
     let mut level = [Ask::NOTHING; MOST_ROWS];
     let again = sides::again_of(asks, busy);
     let mut unplaced = marks::whole(tasks.n as u32);
@@ -152,12 +154,12 @@ pub fn fill(tasks: Tasks, asks: &[Ask], busy: u32) -> Result<Filled, u32>
         };
         let placed = taken.row as usize;
         let at = PLAN_WIDTH * placed;
-        plan[at] = rank;
-        plan[at + 1] = taken.length;
-        times[placed] = taken.response;
+        filled.plan[at] = rank;
+        filled.plan[at + 1] = taken.length;
+        filled.times[placed] = taken.response;
         runs -= asks[placed].run as u32;
         blocking = blocking.max(taken.longer - 1);
         unplaced = marks::less(unplaced, taken.row);
     }
-    Ok(Filled { plan, times })
+    Ok(filled)
 }

@@ -61,7 +61,7 @@ decreases-rows l = l.rest
 abbrev pub invariant-ranks : goal.invariant-ranks
 invariant-ranks l =
     record {
-      going : Going (table l.tasks) l.plan l.times l.unplaced l.blocking;
+      going : Going (table l.tasks) l.filled.plan l.filled.times l.unplaced l.blocking;
       runs : l.runs ≡ load upto (table l.tasks) (marked l.unplaced) 0;
     }
 
