@@ -17,7 +17,7 @@ use Rattle.tables.specs.declared.task.Tasks.{Tasks}
 use Rattle.tables.proofs.Plan.{cap_run}
 use Rattle.test.specs.Test.{horizon, upto, load, Active, active_side}
 use Rattle.test.proofs.Load.{Positive}
-use Rattle.sides.specs.inside.Asks.{again}
+use Rattle.sides.specs.inside.Asks.{nothing, again}
 use Rattle.sides.specs.declared.ask.Ask.{Ask}
 use Rattle.sides.specs.inside.Level.{active_of, Packed, LeftOut, PutBack}
 use Rattle.sides.specs.inside.Found.{Fixed, FixedWithin}
@@ -151,4 +151,4 @@ module _ {tb : Table} {asks : List Ask} {unplaced repeats b runs bound set : ℕ
         pub left_back : (back : List Ask) (a : Ask) → a ≡ get_or asks i a → PutBack at a left back → back ≡ level
         left_back back a read p =
             back_as_was set t.packed t.whole i asked at left back r placed o
-            (subst (λ x. PutBack at x left back) (read_is asks a asked read) p)
+            (subst (λ x. PutBack at x left back) (read_is asks a nothing asked read) p)

@@ -29,8 +29,8 @@ struct Candidate {
     response: u32,
 }
 
-// The longest length worth a try, with which a row blocks with less than the best so far; none where its middle region
-// alone blocks with as much. A row that cannot beat the best cannot take the rank.
+// The longest length worth a try, with which a row blocks with less than the best so far; none where it blocks with as
+// much even with length 1. A row that cannot beat the best cannot take the rank.
 fn cap_of(row: Row, best: Option<Candidate>) -> Option<u32>
     requires { EndsBeforeRun row }
     ensures { WorthIn row best result }
@@ -39,7 +39,7 @@ fn cap_of(row: Row, best: Option<Candidate>) -> Option<u32>
     let Some(best) = best else {
         return Some(cap);
     };
-    if best.longer <= row.region.max(1) {
+    if best.longer <= tables::longer(row, 1) {
         return None;
     }
     Some(cap.min(best.longer - 1))

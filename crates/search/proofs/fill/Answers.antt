@@ -17,6 +17,7 @@ use Rattle.tables.proofs.Plan.{cap_in_lem, longer_in_lem, longer_ge}
 use Rattle.test.specs.Test.{upto, start_side}
 use Rattle.test.proofs.Load.{sound_positive}
 use Rattle.choice.specs.Choice.{Takes}
+use Rattle.sides.specs.inside.Asks.{nothing}
 use Rattle.sides.specs.inside.Level.{start_of}
 use Rattle.sides.proofs.Again.{again_asked}
 use Rattle.responses.proofs.Jobs.{Working, length_first, base_within}
@@ -60,7 +61,7 @@ turn c =
           };
       both = c.both-packed.ensures;
       before = c.ranks.level;
-      packed = c.level_of-all.ensures;
+      packed = c.level_of-all.ensures.packed nothing;
       whole = c.level_of-all.auto.level ∙ c.both-packed.array_long;
       first_is = refl;
     }
@@ -113,7 +114,7 @@ lengths-init c =
       hand = hand g;
       above =
           left_level c.rows.invariant.turn _ (among g) c.place_of-at.result c.place_of-at.ensures
-          c.leave_out-above.new.level c.leave_out-above.result c.leave_out-above.ensures;
+          c.leave_out-above.new.level c.leave_out-above.result (c.leave_out-above.ensures.left nothing);
       top =
           rw (cap_in_lem c.args.tasks.rows c.args.tasks.n c.next-i.result)
           (worth_top (get_or c.args.tasks.rows c.next-i.result no) c.rows.best c.in-Some.cap c.in-Some.ensures);
@@ -297,7 +298,7 @@ restored : (c : After-put_back) → c.put_back.new.level ≡ c.rows.level
 restored c =
     let v = c.rows.invariant in
     left_back v.turn _ (v.seen.among c.next-i.result c.next-i.ensures.first.holds) c.place_of-at.result
-    c.place_of-at.ensures c.leave_out-above.new.level c.leave_out-above.result c.leave_out-above.ensures
+    c.place_of-at.ensures c.leave_out-above.new.level c.leave_out-above.result (c.leave_out-above.ensures.left nothing)
     c.put_back.new.level c.index-asks-i.result c.index-asks-i.is c.put_back.ensures
 
 pub rows-preserved-else-longer-eq1 : goal.rows-preserved-else-longer-eq1
