@@ -15,7 +15,8 @@ pub fn plan(table: &[u32], out: &mut [u32]) -> Answer
     if out.len() < places {
         return Err(Refusal::Room);
     }
-    let (asks, busy) = times::check_busy(&tasks)?;
+    let asks = sides::asks_of(&tasks);
+    let busy = times::check_busy(&tasks, &asks)?;
     let Ok(filled) = search::fill(tasks, &asks[..tasks.n], busy) else {
         return Err(Refusal::NoPlan);
     };

@@ -21,7 +21,8 @@ fn responses_of(tasks: &Tasks, plan: &[u32]) -> Result<[u32; MOST_ROWS], Refusal
     requires { Clear (plan_form (table_in tasks.now.rows tasks.now.n) plan.now) }
     ensures { Timed (table_in tasks.now.rows tasks.now.n) plan.now result }
 {
-    let (asks, _) = check_busy(tasks)?;
+    let asks = sides::asks_of(tasks);
+    check_busy(tasks, &asks)?;
     Ok(responses::responses(tasks, &asks[..tasks.n], plan))
 }
 

@@ -9,7 +9,7 @@ use Rattle.test.specs.Answers.{no_busy}
 use Rattle.choice.specs.Answers.{PlanAnswer, PlanGiven, plan_rest}
 use Rattle.tables.proofs.Answered.{◌past◌}
 use Rattle.tables.proofs.Front.{front_refuses, rest_answers, room_refuses, room_clear}
-use Rattle.times.proofs.Busy.{busy_clear, asked_busy}
+use Rattle.times.proofs.Busy.{busy_clear, busy_within}
 use Rattle.plan.proofs.Answers.{stopped_refuses, chosen_clear, plan_given}
 use Rattle.plan.proofs.plan.Goals as goal
 use Rattle.plan.proofs.plan.Goals.{In_ok-tasks}
@@ -27,22 +27,22 @@ over c = rest_answers c.args.table.now c.args.out.now c.in_ok-tasks.tasks c.in_o
 pub returns-then-out-places : goal.returns-then-out-places
 returns-then-out-places c = over (goal.at.returns-then-out-places c).In_ok-tasks (room_refuses _ _ c.if-out-places.true)
 
-pub returns-in_err-asks : goal.returns-in_err-asks
-returns-in_err-asks c =
+pub returns-in_err-busy : goal.returns-in_err-busy
+returns-in_err-busy c =
     let t = c.in_ok-tasks.tasks in
-    let p = err_from_is_err_and c.from_residual-in_err-asks.result c.from_residual-in_err-asks.ensures.1 in
+    let p = err_from_is_err_and c.from_residual-in_err-busy.result c.from_residual-in_err-busy.ensures.1 in
     rw (p.1, p.2)
-    (over (goal.at.returns-in_err-asks c).In_ok-tasks
+    (over (goal.at.returns-in_err-busy c).In_ok-tasks
     (room_clear _ _ c.if-out-places.false
-    past front_refuses (no_busy (table_in t.rows t.n) ∷ []) c.args.out.now _ _ c.in_err-asks.ensures))
+    past front_refuses (no_busy (table_in t.rows t.n) ∷ []) c.args.out.now _ _ c.in_err-busy.ensures))
 
 pub fill-requires : goal.fill-requires
-fill-requires c = let a = c.in_ok-asks.ensures in (a.busy, a.within, a.asked.front)
+fill-requires c = let b = c.in_ok-busy.ensures in (b.0, b.1, c.asks_of-asks.ensures.front)
 
 pub returns-in_default : goal.returns-in_default
 returns-in_default c =
     over (goal.at.returns-in_default c).In_ok-tasks
-    (room_clear _ _ c.if-out-places.false past busy_clear (asked_busy c.in_ok-asks.ensures)
+    (room_clear _ _ c.if-out-places.false past busy_clear (busy_within _ c.in_ok-busy.ensures)
     past stopped_refuses _ c.in_default.ensures.stop)
 
 pub write-requires : goal.write-requires
@@ -55,6 +55,6 @@ returns c =
     let g = c.in-Ok.filled in
     let o = c.args.out.now in
     over (goal.at.returns c).In_ok-tasks
-    (room_clear _ _ c.if-out-places.false past busy_clear (asked_busy c.in_ok-asks.ensures)
+    (room_clear _ _ c.if-out-places.false past busy_clear (busy_within _ c.in_ok-busy.ensures)
     past chosen_clear t.sound g.plan g.times o f.chosen
     past rw c.write.ensures (plan_given t.sound g.plan g.times o f.chosen c.if-out-places.false f.responses))

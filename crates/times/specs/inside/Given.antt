@@ -7,19 +7,11 @@ use Rattle.tables.specs.inside.Checked.{RefusedBy}
 use Rattle.tables.specs.declared.answer.Refusal.{Refusal}
 use Rattle.test.specs.Test.{Busy, horizon}
 use Rattle.test.specs.Answers.{no_busy, times_width, time_in}
-use Rattle.sides.specs.declared.ask.Ask.{Ask}
-use Rattle.sides.specs.inside.Asks.{AsksFront}
 use Rattle.responses.specs.inside.Asked.{Planned, Responses}
 
--- what the rows of a table ask with, and its busy period
-pub record Asked (tb : Table) (asks : List Ask) (period : ℕ) : Type 0 where
-  pub asked : AsksFront tb asks
-  pub busy : Busy tb period
-  pub within : period ≤ horizon
-
--- the check 4
-abbrev pub BusyChecked : Table → Result (List Ask × ℕ) Refusal → Type 0
-BusyChecked tb (Ok found) = Asked tb found.0 found.1
+-- the check 4; where it is clear, the busy period
+abbrev pub BusyChecked : Table → Result ℕ Refusal → Type 0
+BusyChecked tb (Ok period) = Busy tb period × (period ≤ horizon)
 BusyChecked tb (Err r) = RefusedBy (no_busy tb ∷ []) r
 
 -- the check 4, and then the response of each row of a plan
