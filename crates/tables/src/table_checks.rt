@@ -78,7 +78,9 @@ pub fn rows_of(table: &[u32]) -> [Row; MOST_ROWS]
     rows
 }
 
-// The checks 1 and 3 of a task table, and its rows where both are clear.
+// The checks 1 and 3 of a task table, and its rows where both are clear. Inlined, the rows are made in the caller's own
+// frame: a frame of its own would take the stack of a call past what the header promises.
+#[inline(always)]
 pub fn check_table(table: &[u32]) -> Result<Tasks, Refusal>
     ensures { TableChecked table.now result }
 {
