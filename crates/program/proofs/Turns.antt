@@ -1,34 +1,22 @@
 -- Laws of reading in turns: what the turns put behind one another is what they took from the input, and the page of what
 -- was read is the page of the whole input.
-use Rattle.std.proofs.Common.{◌≡◌, ℕ, ◌+◌, ◌≤◌, ◌<◌, List, [], ◌++◌, arith, length, take, drop, sym, ap, ◌∙◌, refl, subst, drop_at, length-take-le, take_all}
+use Rattle.std.proofs.Common.{◌≡◌, ℕ, ◌+◌, ◌≤◌, ◌<◌, List, [], ◌++◌, arith, length, take, drop, sym, ap, ◌∙◌, subst, drop_at, length-take-le, take_all}
 use Rattle.std.specs.declared.option.Option.{Option}
 use Rattle.std.specs.declared.option.Option.TheVariants.{None, Some}
-use Rattle.std.specs.Io.KnownBytes.{Consumes, Appends, Keeps, IsAtEnd}
+use Rattle.std.specs.declared.result.Result.{Result}
+use Rattle.std.specs.declared.result.Result.TheVariants.{Ok, Err}
+use Rattle.std.specs.Result.{MatchResult, IfOk, IsErrAnd}
+use Rattle.std.specs.Io.KnownBytes.{Consumes, Appends, IsAtEnd}
 use Rattle.std.proofs.lemmas.Slice.{take-put_mid_below}
-use Rattle.std.proofs.lemmas.List.{append_assoc, append-nil}
+use Rattle.std.proofs.lemmas.List.{append-nil}
+use Rattle.std.proofs.lemmas.Result.{IfOk-at_ok}
 use borrow.Rule.Slice.PartMut.{put_mid, post_of}
 use lib.Seq.{take-append-le, take-add}
 use Rattle.counting.proofs.Cases.{by_le}
-use Rattle.program.specs.declared.Outcome.TheVariants.{Written}
 use Rattle.program.specs.Reply.{Page}
 use Rattle.program.specs.Run.{WritesPage}
 use Rattle.sheet.proofs.Fronts.{longest_sheet}
 use Rattle.program.proofs.Pages.{page_cut}
-
--- what nothing is written to stays as it was
-pub keeps_same : (a : Option (List ℕ)) → Keeps a a
-keeps_same None = tt
-keeps_same (Some x) = refl
-
-pub consumes_nil : (a : Option (List ℕ)) → Consumes a a []
-consumes_nil None = tt
-consumes_nil (Some x) = refl
-
-pub consumes_more : (a b c : Option (List ℕ)) (bs cs : List ℕ) → Consumes a b bs → Consumes b c cs → Consumes a c (bs ++ cs)
-consumes_more None b c bs cs p q = tt
-consumes_more (Some x) None c bs cs p q = absurd p
-consumes_more (Some x) (Some y) None bs cs p q = absurd q
-consumes_more (Some x) (Some y) (Some z) bs cs p q = p ∙ ap (λ l. bs ++ l) q ∙ sym (append_assoc bs cs z)
 
 -- the front of a buffer after a read of k bytes behind its first n
 pub read_front : (n room k : ℕ) (buf got : List ℕ) → n ≤ length buf → k ≤ length got
@@ -39,6 +27,12 @@ read_front n room k buf got within fits =
     let front : take n new ≡ take n buf = take-put_mid_below _ _ _ _ _ (omega arith) within in
     let rest : take k (drop n new) ≡ take k got = ap (take k) (drop_at (take n buf) (got ++ after) n (length-take-le n buf within)) ∙ take-append-le k got after fits in
     ap (λ l. l ++ take k got) (sym front) ∙ ap (λ l. take n new ++ l) (sym rest) ∙ sym (take-add n k new)
+
+-- what holds of a value holds of it past a change of the error
+pub past_map_err : {X E F : Type 0} (P : X → Type 0) (Q : E → F → Type 0) (r : Result X E) (m : Result X F) (x : X)
+    → MatchResult r (λ y. m ≡ Ok y) (λ e. IsErrAnd m (Q e)) → m ≡ Ok x → IfOk r P → P x
+past_map_err P Q (Ok y) m x same is holds = IfOk-at_ok P is (rw same holds)
+past_map_err P Q (Err e) m x failed is holds = absurd (rw is at failed)
 
 -- what was read is the input up to the size of the buffer
 read_all : (text rest front : List ℕ) (k : ℕ) → text ≡ front ++ rest → length front ≤ k → (length front < k → rest ≡ [])
@@ -51,7 +45,7 @@ read_all text rest front k e within end =
 -- the page of what was read is the page of the whole input
 pub page_written : (a b old new : Option (List ℕ)) (front : List ℕ) (k : ℕ) (page : List ℕ) → Consumes a b front
     → length front ≤ k → (length front < k → IsAtEnd b) → longest_sheet < k → Page front page → Appends old new page
-    → WritesPage a old new Written
+    → WritesPage a old new (Ok tt)
 page_written None b old new front k page c within end long p q = tt
 page_written (Some text) None old new front k page c within end long p q = absurd c
 page_written (Some text) (Some rest) old new front k page c within end long p q =
