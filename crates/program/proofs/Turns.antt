@@ -1,5 +1,5 @@
--- Laws of reading in turns: what the turns put behind one another is what they took from the input, and the page of what
--- was read is the page of the whole input.
+-- Laws of reading in turns: what each turn reads stands behind what was read before, and the page of what was read is the
+-- page of the whole input.
 use Rattle.std.proofs.Common.{◌≡◌, ℕ, ◌+◌, ◌≤◌, ◌<◌, List, [], ◌++◌, arith, length, take, drop, sym, ap, ◌∙◌, subst, drop_at, length-take-le, take_all}
 use Rattle.std.specs.declared.option.Option.{Option}
 use Rattle.std.specs.declared.option.Option.TheVariants.{None, Some}

@@ -1,7 +1,7 @@
 // The program over the library: a sheet from standard input, its plan or its refusal to standard output.
 #![tactic(auto)]
 
-ghost use Rattle.std.specs.Prelude.{◌≤◌, length, take, ◌≡◌, IfOk, IfErr};
+ghost use Rattle.std.specs.Prelude.{◌≤◌, length, ◌≡◌, IfOk, IfErr};
 ghost use Rattle.tables.specs.Checks.{Rows};
 ghost use Rattle.tables.specs.Planned.{planned_width};
 ghost use Rattle.printing.specs.Printed.{plan_text, refused_line};
@@ -31,18 +31,6 @@ fn print_planned<'a>(planned: &[u32], page: &'a mut [u8]) -> &'a mut [u8]
     templetbark::print(planned, page)
 }
 
-// The front of the lent output that an answer counts, or the answer, where it is a refusal.
-fn front(said: Said, out: &[u32]) -> Result<&[u32], Said>
-    requires { said.number ≡ 0 → said.value ≤ length out.now }
-    ensures given { IfOk result (λ given. (said.number ≡ 0) × (given.now ≡ take said.value out.now)) }
-    ensures refused { IfErr result (λ refusal. (refusal ≡ said) × (said.number ≡ 0 → ⊥)) }
-{
-    if said.number != 0 {
-        return Err(said);
-    }
-    Ok(&out[..said.value as usize])
-}
-
 // The planned table of a sheet's text, whose page is its text; or the refusal, whose page is its line.
 fn plan_sheet<'a>(text: &[u8], planned: &'a mut [u32]) -> Result<&'a [u32], Said>
     requires { planned.old ≡ blank planned_width }
@@ -51,9 +39,9 @@ fn plan_sheet<'a>(text: &[u8], planned: &'a mut [u32]) -> Result<&'a [u32], Said
 {
     let mut table = [0u32; ROW_WIDTH * MOST_ROWS];
     let read = templetbark::tb_sheet(text, &mut table);
-    let rows = front(read, &table)?;
+    let rows = templetbark::front(read, &table)?;
     let said = templetbark::tb_plan(rows, planned);
-    front(said, planned)
+    templetbark::front(said, planned)
 }
 
 // The page of a text.

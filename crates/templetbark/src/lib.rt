@@ -2,7 +2,7 @@
 // number, place and value as C has them. The crate `templetbark_c` exports them for C.
 #![tactic(auto)]
 
-ghost use Rattle.std.specs.Prelude.{[], ◌≡◌, length};
+ghost use Rattle.std.specs.Prelude.{[], ◌≡◌, length, take, IfOk, IfErr};
 ghost use Rattle.test.specs.Answers.{TimesAnswer, VerdictAnswer};
 ghost use Rattle.choice.specs.Answers.{PlanAnswer};
 ghost use Rattle.kernel.specs.Answers.{PlayAnswer};
@@ -69,4 +69,16 @@ pub fn print<'a>(planned: &[u32], buf: &'a mut [u8]) -> &'a mut [u8]
         × (result.ref_ptr ≡ buf.entry.ref_ptr) }
 {
     printing::print(planned, buf)
+}
+
+// For callers in Rattle: the front of a lent output that an answer counts, or the answer itself where it is a refusal.
+pub fn front(said: Said, out: &[u32]) -> Result<&[u32], Said>
+    ensures given { IfOk result (λ given. (said.number ≡ 0) × (given.now ≡ take said.value out.now)) }
+    ensures refused { IfErr result (λ refusal. (refusal ≡ said) × (said.number ≡ 0 → ⊥)) }
+{
+    if said.number != 0 {
+        return Err(said);
+    }
+    let end = out.len().min(said.value as usize);
+    Ok(&out[..end])
 }
