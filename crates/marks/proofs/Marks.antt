@@ -75,7 +75,7 @@ same_marks (suc k) s t a b h =
     omega arith
 
 -- a sum taken apart at its first number
-sum_head : (f : ℕ → ℕ) (n : ℕ) → sum f (suc n) ≡ f 0 + sum (λ j. f (suc j)) n
+pub sum_head : (f : ℕ → ℕ) (n : ℕ) → sum f (suc n) ≡ f 0 + sum (λ j. f (suc j)) n
 unfolding sum
 sum_head f zero = omega arith
 sum_head f (suc n) = omega (arith, sum_head f n)

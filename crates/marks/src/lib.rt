@@ -1,9 +1,13 @@
 // A set of rows as one 32-bit number: row i is marked where binary digit i is 1.
 #![tactic(auto)]
 
+mod walk;
+
 ghost use Rattle.std.specs.Prelude.{◌≡◌, true, false, ℕ, ◌≤◌, ◌<◌};
 ghost use Rattle.counting.specs.Sum.{count};
-ghost use Rattle.marks.specs.inside.Marks.{marked, Whole, Next, Both, Less, More};
+ghost use Rattle.marks.specs.inside.Marks.{marked, Whole, Next, Both, Placed, Less, More};
+
+pub use walk::{Walk, rows};
 
 // All rows below n.
 pub fn whole(n: u32) -> u32
@@ -57,6 +61,18 @@ pub fn place(set: u32, i: u32) -> u32
     ensures { result ≡ count (marked set) i }
 {
     u32::count_ones(set & ((1 << i) - 1))
+}
+
+// The place of row i among the marked rows, where it is one of them.
+pub fn place_of(set: u32, i: u32) -> Option<usize>
+    requires { i < 32 }
+    ensures { Placed set i result }
+{
+    if has(set, i) {
+        Some(place(set, i) as usize)
+    } else {
+        None
+    }
 }
 
 // The set less a row that is marked.

@@ -45,6 +45,10 @@ module _ {tb : Table} {P : ℕ → Bool} {b i q k R s : ℕ} (p : Passed tb P b 
             (k, omega arith, rw e finish));
       }
 
+-- the same number by another name
+pub passed_as : {tb : Table} {P : ℕ → Bool} {b i q k R S : ℕ} → Passed tb P b i q k R → S ≡ R → Passed tb P b i q k S
+passed_as p e = rw e p
+
 -- all jobs of the active period are passed
 pub passed_all : {tb : Table} {P : ℕ → Bool} {b i q L R : ℕ} → Working tb P b i q L →
     Passed tb P b i q (jobs tb P b i L) R → Response tb P b i q R

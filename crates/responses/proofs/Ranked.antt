@@ -6,6 +6,7 @@ use mathlib.Core.Bool.{true, or-false}
 use mathlib.Core.List.{List}
 use native.Mathlib.Omega.{arith}
 use lib.Dec.{eqb}
+use lib.ListN.{length}
 use borrow.Author.Tests.{eq-eqb, eqb-true, ne_eqb}
 use Rattle.counting.specs.Sum.{without}
 use Rattle.counting.proofs.Cases.{or_cases, or_right}
@@ -14,7 +15,7 @@ use Rattle.marks.specs.inside.Marks.{marked, More}
 use Rattle.tables.specs.Table.{Table}
 use Rattle.test.specs.Test.{horizon, upto, load, Active, active_side}
 use Rattle.test.proofs.Load.{Positive, sound_positive}
-use Rattle.sides.specs.inside.Asks.{many}
+use Rattle.sides.specs.declared.ask.Ask.{Ask}
 use Rattle.sides.specs.inside.Level.{active_of}
 use Rattle.sides.specs.inside.Found.{Fixed, FixedWithin}
 use Rattle.sides.proofs.Level.{Asking}
@@ -22,11 +23,11 @@ use Rattle.sides.proofs.Lower.{active_first, active_within, active_found}
 use Rattle.responses.specs.inside.Asked.{Ranked}
 use Rattle.responses.proofs.Jobs.{Working}
 
-module _ {tb : Table} {asks : List ℕ} {set b i q : ℕ} (r : Ranked tb asks set b i q) where
+module _ {tb : Table} {asks : List Ask} {set b i q : ℕ} (r : Ranked tb asks set b i q) where
   pub positive : Positive tb
   positive = sound_positive tb r.sound
 
-  pub rows : many asks ≡ tb.n
+  pub rows : length asks ≡ tb.n
   rows = omega (arith, r.asked.long)
 
   pub working : Working tb (marked set) b i q r.period
@@ -45,7 +46,7 @@ module _ {tb : Table} {asks : List ℕ} {set b i q : ℕ} (r : Ranked tb asks se
     pub own : marked all i ≡ true
     own = m i ∙ or_right (marked set i) (eqb i i) (eq-eqb i i refl)
 
-    pub inside : (j : ℕ) → marked all j ≡ true → j < many asks
+    pub inside : (j : ℕ) → marked all j ≡ true → j < length asks
     inside j e =
         or_cases (marked set j) (eqb j i) (sym (m j) ∙ e)
         (λ f. omega (arith, r.inside j f, rows))
@@ -57,7 +58,7 @@ module _ {tb : Table} {asks : List ℕ} {set b i q : ℕ} (r : Ranked tb asks se
         (λ e. sym (m j ∙ rw (ne_eqb j i e) (or-false (marked set j)))))
 
     -- over a level of it and the rows above
-    module _ {level : List ℕ} (a : Asking tb (marked all) (horizon + 1) level) {first-asked : ℕ}
+    module _ {level : List Ask} (a : Asking tb (marked all) (horizon + 1) level) {first-asked : ℕ}
         (f : first-asked ≡ b + load upto tb (marked all) 0)
       where
         abbrev alone : Active tb (without (marked all) i) b i r.period

@@ -12,6 +12,7 @@ use Rattle.tables.specs.Table.{Table}
 use Rattle.tables.specs.Plan.{plan_of}
 use Rattle.tables.proofs.Plan.{cap_run}
 use Rattle.test.specs.Test.{Response, ResponseOf, above, blocking}
+use Rattle.sides.specs.declared.ask.Ask.{Ask}
 use Rattle.sides.specs.inside.Asks.{Asks}
 use Rattle.counting.proofs.Cases.{and_left}
 use Rattle.test.proofs.Plans.{plan_active}
@@ -33,7 +34,7 @@ module _ {tb : Table} {ps : List ℕ} {i set b : ℕ} (p : Placed tb ps i set b)
   agree j h = p.over j ∙ rw (lt-ltb j tb.n h)
 
   -- the rows above are rows of the table, and row i is none of them
-  pub ranked : {asks : List ℕ} → Asks tb asks → Ranked tb asks set b i ((plan_of ps).len i)
+  pub ranked : {asks : List Ask} → Asks tb asks → Ranked tb asks set b i ((plan_of ps).len i)
   ranked asks =
       let a = plan_active tb p.planned.sound p.planned.busy (plan_of ps) p.planned.plan i p.row in
       let r = (plan_of ps).rank i in

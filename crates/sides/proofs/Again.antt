@@ -6,16 +6,19 @@ use mathlib.Core.List.{List}
 use native.Mathlib.Omega.{arith}
 use native.Mathlib.Nat.{mul-le-mul, div-eq_of_lt, div-lt_iff_lt-mul}
 use lib.Dec.{ltb}
+use lib.ListN.{length}
 use borrow.Author.Tests.{lt-ltb, le-ltb}
 use Rattle.counting.proofs.Cases.{by_le}
 use Rattle.marks.specs.inside.Marks.{marked, Where}
 use Rattle.tables.specs.Table.{Table, Sound, most}
 use Rattle.test.specs.Test.{horizon}
-use Rattle.sides.specs.inside.Asks.{scale, many, again, repeated, Asks}
+use Rattle.sides.specs.declared.ask.Ask.{Ask}
+use Rattle.sides.specs.inside.Inverse.{scale}
+use Rattle.sides.specs.inside.Asks.{again, repeated, Asks}
 use Rattle.sides.proofs.Inverse.{by_inverse}
 
-pub again_asked : {tb : Table} {asks : List ℕ} {t : ℕ} (set : ℕ) → Sound tb → Asks tb asks → 1 ≤ t → t ≤ horizon →
-    Where (repeated asks t) (many asks) set → (j : ℕ) → j < tb.n → marked set j ≡ again tb t j
+pub again_asked : {tb : Table} {asks : List Ask} {t : ℕ} (set : ℕ) → Sound tb → Asks tb asks → 1 ≤ t → t ≤ horizon →
+    Where (repeated asks t) (length asks) set → (j : ℕ) → j < tb.n → marked set j ≡ again tb t j
 again_asked {tb} {asks} {t} set sound a low high w j l =
     let T = (sound.row j l).T in
     let s = t - 1 in
@@ -30,7 +33,7 @@ again_asked {tb} {asks} {t} set sound a low high w j l =
     (λ g. absurd (omega (arith, (div-lt_iff_lt-mul {k = tb.T j} {y = 1} T.low).0 g))) in
     lt-ltb _ _ some ∙ sym (lt-ltb _ _ h)) in
     w j
-    ∙ ap (λ b. b && repeated asks t j) (lt-ltb j (many asks) (omega (arith, a.long)))
+    ∙ ap (λ b. b && repeated asks t j) (lt-ltb j (length asks) (omega (arith, a.long)))
     ∙ ap (λ i. ltb 0 (s * i / scale)) (a.inverses j l)
     ∙ ap (ltb 0) (by_inverse s (tb.T j) T.low (omega arith))
     ∙ by-spacing

@@ -4,7 +4,7 @@ use mathlib.Core.Path.{◌≡◌}
 use native.Mathlib.Omega.{arith}
 use native.Mathlib.Nat.{div-add-mod', mod-lt, div-eq_of_lt-le, lt_of_mul-lt-mul_right, mul-le-mul_left}
 use native.Mathlib.Nat.{mul-le-mul_right}
-use Rattle.sides.specs.inside.Asks.{scale, inverse_of}
+use Rattle.sides.specs.inside.Inverse.{scale, inverse_of}
 
 -- the inverse times T passes the scale by 1 to T, and s times that stays below the scale
 pub by_inverse : (s T : ℕ) → 1 ≤ T → s * T < scale → s * inverse_of T / scale ≡ s / T

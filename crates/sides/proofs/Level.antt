@@ -6,40 +6,46 @@ use mathlib.Core.Bool.{Bool, true}
 use mathlib.Core.List.{List}
 use native.Mathlib.Omega.{arith}
 use native.Mathlib.Nat.{mul-le-mul_right}
+use lib.ListN.{length}
 use Rattle.counting.specs.Sum.{without}
 use Rattle.counting.proofs.Cases.{by_le}
 use Rattle.counting.proofs.Up.{div_mono}
 use Rattle.counting.proofs.Least.{Mono, least_unique}
 use Rattle.counting.proofs.Sum.{sum_le, sum_zero}
-use Rattle.tables.specs.Table.{Table}
+use Rattle.tables.specs.Table.{Table, most_rows}
 use Rattle.test.specs.Test.{before, upto, load, every_row, busy_side, active_side, start_side}
 use Rattle.test.proofs.Load.{Positive, load_upto}
 use Rattle.test.proofs.Sides.{active_side_first, active_side_level, start_side_whole}
-use Rattle.sides.specs.inside.Asks.{scale, many, run, inverse}
-use Rattle.sides.specs.inside.Level.{runs_of, part_of, later, busy_of, active_of, start_of, Small}
+use Rattle.sides.specs.declared.ask.Ask.{Ask}
+use Rattle.sides.specs.inside.Inverse.{scale}
+use Rattle.sides.specs.inside.Asks.{row, part_of}
+use Rattle.sides.specs.inside.Level.{runs_of, later, busy_of, active_of, start_of}
+use Rattle.sides.proofs.Rows.{over_rows}
 use Rattle.sides.specs.inside.Found.{Fixed}
 
 -- before the bound the level asks, after the first tick, for what the rows of the table at which P passes ask for
-pub record Asking (tb : Table) (P : ℕ → Bool) (bound : ℕ) (level : List ℕ) : Type 0 where
-  pub small : Small level
+pub record Asking (tb : Table) (P : ℕ → Bool) (bound : ℕ) (level : List Ask) : Type 0 where
+  pub few : length level ≤ most_rows
   pub asks : (s : ℕ) → s < bound → load upto tb P 0 + later level s ≡ load upto tb P s
 
-module _ (level : List ℕ) where
+module _ (level : List Ask) where
   -- after the first tick nothing is asked for in it
   pub later_none : later level 0 ≡ 0
   unfolding later
   later_none =
-      sum_zero (part_of level 0) (many level)
+      over_rows (λ a. part_of a 0) level
+      ∙ sum_zero (λ p. part_of (row level p) 0) (length level)
       (λ p _.
-      let none : 0 * inverse level p / scale ≡ 0 = omega arith in
-      omega (arith, ap (λ n. n * run level p) none))
+      let none : 0 * (row level p).inverse / scale ≡ 0 = omega arith in
+      omega (arith, ap (λ n. n * (row level p).run) none))
 
   -- what is asked for never falls, and so does no right side
   later_mono : Mono (later level)
   unfolding later
   later_mono a b h =
-      sum_le _ _ (many level)
-      (λ p _. mul-le-mul_right (run level p) (div_mono scale (mul-le-mul_right (inverse level p) h)))
+      let rows = sum_le (λ p. part_of (row level p) a) (λ p. part_of (row level p) b) (length level)
+      (λ p _. mul-le-mul_right (row level p).run (div_mono scale (mul-le-mul_right (row level p).inverse h))) in
+      omega (arith, rows, over_rows (λ x. part_of x a) level, over_rows (λ x. part_of x b) level)
 
   pub busy_of_mono : Mono (busy_of level)
   busy_of_mono x y h = omega (arith, later_mono (x - 1) (y - 1) (omega arith))
@@ -50,7 +56,7 @@ module _ (level : List ℕ) where
   pub start_of_mono : (base : ℕ) → Mono (start_of level base)
   start_of_mono base x y h = omega (arith, later_mono x y h)
 
-module _ {tb : Table} {P : ℕ → Bool} {bound : ℕ} {level : List ℕ} (a : Asking tb P bound level) (pos : Positive tb)
+module _ {tb : Table} {P : ℕ → Bool} {bound : ℕ} {level : List Ask} (a : Asking tb P bound level) (pos : Positive tb)
   where
     asked_before : (t : ℕ) → 1 ≤ t → t ≤ bound → load upto tb P 0 + later level (t - 1) ≡ load before tb P t
     asked_before t low high =
@@ -76,7 +82,7 @@ module _ {tb : Table} {P : ℕ → Bool} {bound : ℕ} {level : List ℕ} (a : A
         )
 
 -- the level holds all rows
-pub busy_of_is : {tb : Table} {bound : ℕ} {level : List ℕ} → Asking tb every_row bound level →
+pub busy_of_is : {tb : Table} {bound : ℕ} {level : List Ask} → Asking tb every_row bound level →
     runs_of level ≡ load upto tb every_row 0 → Positive tb → (t : ℕ) → 1 ≤ t → t ≤ bound →
     busy_of level t ≡ busy_side tb t
 unfolding busy_side

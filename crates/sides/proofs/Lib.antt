@@ -2,10 +2,10 @@
 pub mod Inverse
 pub mod Again
 pub mod Pairs
+pub mod Rows
 pub mod Asks
 pub mod Climb
 pub mod Small
-pub mod Summed
 pub mod Level
 pub mod Pack
 pub mod Asking

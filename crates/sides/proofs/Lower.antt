@@ -8,6 +8,7 @@ use native.Mathlib.Omega.{arith}
 use Rattle.counting.specs.Sum.{without}
 use Rattle.tables.specs.Table.{Table}
 use Rattle.test.specs.Test.{horizon, upto, load, active_side, Active, start_side, Start}
+use Rattle.sides.specs.declared.ask.Ask.{Ask}
 use Rattle.sides.specs.inside.Level.{active_of, start_of}
 use Rattle.sides.specs.inside.Found.{Fixed, FixedWithin}
 use Rattle.test.proofs.Load.{Positive, load_upto, load_upto_mono}
@@ -31,7 +32,7 @@ module _ (tb : Table) (P : ℕ → Bool) (b i : ℕ) (pos : Positive tb) (l : i 
       )
 
 -- a level of row i and those above it
-module _ {tb : Table} {U : ℕ → Bool} {bound : ℕ} {level : List ℕ} (a : Asking tb U bound level) (pos : Positive tb)
+module _ {tb : Table} {U : ℕ → Bool} {bound : ℕ} {level : List Ask} (a : Asking tb U bound level) (pos : Positive tb)
     (b i : ℕ) {first : ℕ} (f : first ≡ b + load upto tb U 0) (l : i < tb.n) (e : U i ≡ true) where
   abbrev P : ℕ → Bool
   P = without U i
@@ -60,7 +61,7 @@ module _ {tb : Table} {U : ℕ → Bool} {bound : ℕ} {level : List ℕ} (a : A
     active_found = fixed_found same h x
 
 -- a level of the rows above row i, and the start of its job with k others before it, before the bound and up to H
-module _ {tb : Table} {P : ℕ → Bool} {bound : ℕ} {level : List ℕ} (a : Asking tb P bound level) (pos : Positive tb)
+module _ {tb : Table} {P : ℕ → Bool} {bound : ℕ} {level : List Ask} (a : Asking tb P bound level) (pos : Positive tb)
     (b i q k : ℕ) (l : i < tb.n) (most : q ≤ tb.C i) {base s : ℕ}
     (e : base ≡ active_side tb P b i 1 + k * tb.C i - q) (h : s < bound) (g : s ≤ horizon)
     (x : Start tb P b i q (suc k) s) where

@@ -15,6 +15,7 @@ use Rattle.counting.proofs.Least.{least_unique}
 use Rattle.tables.specs.Table.{Table}
 use Rattle.tables.specs.Refusal.{Check, Clear, Outcome, bare, Refused, Granted, Answered}
 use Rattle.tables.specs.Checks.{rows_shape, range, plan_form, jobs_shape, job_rules, room}
+pub use Rattle.tables.specs.inside.Checked.{AllClear}
 
 -- the check hits at one place at most
 abbrev pub OnePlace : Check → Type 0
@@ -24,11 +25,6 @@ OnePlace c = (a b : ℕ) → c.hits a → c.hits b → a ≡ b
 abbrev pub OnePlaces : List Check → Type 0
 OnePlaces [] = Unit
 OnePlaces (c ∷ cs) = OnePlace c × OnePlaces cs
-
--- no check of the list hits
-abbrev pub AllClear : List Check → Type 0
-AllClear [] = Unit
-AllClear (c ∷ cs) = Clear c × AllClear cs
 
 -- one value at most is carried by a refusal of one number at one place
 abbrev pub OneCarried : {Value : Type 0} → (ℕ → ℕ → Value → Type 0) → Type 0

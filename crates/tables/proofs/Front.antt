@@ -1,74 +1,62 @@
 -- The front that the operations share, as answers: what each check function says of the checks 1, 3, 6 and 2, which
 -- refuse or are clear and leave the answer to the rest.
-use Prim.Native.Nat.{ℕ, ◌*◌, ◌≤◌, ◌<◌}
-use mathlib.Core.Path.{◌≡◌, refl, sym, subst}
-use mathlib.Core.Logic.{◌⊎◌, inl}
-use mathlib.Core.List.{List}
+use Prim.Native.Nat.{ℕ, ◌≤◌, ◌<◌}
+use mathlib.Core.Path.{refl, subst}
+use mathlib.Core.Logic.{◌⊎◌, inl, ⊎_elim}
+use mathlib.Core.List.{List, [], ◌∷◌}
 use native.Mathlib.Omega.{arith}
 use lib.ListN.{length}
-use Rattle.tables.specs.Table.{Table, Sound, row_width, most_rows, table_of}
-use Rattle.tables.specs.Refusal.{Clear, Result, bare, Refused}
+use Rattle.std.proofs.Common.{Ok, Err}
+use Rattle.tables.specs.Table.{Table, table_of}
+use Rattle.tables.specs.Refusal.{Check, Clear, Result, bare, Refused}
 use Rattle.tables.specs.Checks.{shape, range, plan_form, room}
 use Rattle.tables.specs.Answer.{result_of}
-use Rattle.tables.specs.inside.Rows.{SoundSlice}
-use Rattle.tables.specs.inside.Checked.{TableChecked, PlanChecked}
-use Rattle.tables.specs.declared.Answer.TheVariants.{Shape, Range, Plan, Room}
-use Rattle.tables.specs.declared.TableCheck.{TableCheck}
-use Rattle.tables.specs.declared.PlanCheck.{PlanCheck}
-use Rattle.tables.specs.declared.PlanCheck.TheVariants.{WellFormed, AtFault}
+use Rattle.tables.specs.inside.Rows.{table_in}
+use Rattle.tables.specs.inside.Checked.{AllClear, RefusedBy, TableChecked, PlanChecked}
+use Rattle.tables.specs.declared.answer.Refusal.{Refusal}
+use Rattle.tables.specs.declared.answer.Refusal.TheVariants.{Room}
+use Rattle.tables.specs.declared.task.Tasks.{Tasks}
 use Rattle.tables.proofs.Answered.{◌past◌}
-use Rattle.tables.proofs.Clear.{sound_of_clear}
 use Rattle.tables.proofs.Result.{refuse}
 
+-- what answers: one of the checks, in their order, or X past all of them
+abbrev pub Front : List Check → List ℕ → Result → Type 0 → Type 0
+Front [] out r X = X
+Front (c ∷ cs) out r X = Refused bare c out r ⊎ (Clear c × Front cs out r X)
+
+-- a refusal by one of them answers, and where each is clear what answers behind them does
+pub front_refuses : (cs : List Check) (out : List ℕ) (r : Refusal) (X : Type 0) → RefusedBy cs r →
+    Front cs out (result_of (Err r) out) X
+front_refuses [] out r X b = absurd b
+front_refuses (c ∷ cs) out r X b =
+    ⊎_elim (λ h. inl (refuse c out r h.0 h.1)) (λ h. h.0 past front_refuses cs out r X h.1) b
+
+pub front_clear : (cs : List Check) (out : List ℕ) (r : Result) (X : Type 0) → AllClear cs → X → Front cs out r X
+front_clear [] out r X clear x = x
+front_clear (c ∷ cs) out r X clear x = clear.0 past front_clear cs out r X clear.1 x
+
 -- the checks 1 and 3
-module _ (xs : List ℕ) {k : TableCheck} (w : TableChecked xs k) where
-  pub shape_refuses : {X : Type 0} (out : List ℕ) → k ≡ TableCheck.Shape →
-      Refused bare (shape xs) out (result_of Shape out) ⊎ X
-  shape_refuses out e = inl (refuse (shape xs) out Shape refl (subst (TableChecked xs) e w) refl)
+module _ (xs out : List ℕ) where
+  pub table_refuses : (r : Refusal) {X : Type 0} → TableChecked xs (Err r) →
+      Front (shape xs ∷ range xs ∷ []) out (result_of (Err r) out) X
+  table_refuses r {X} = front_refuses (shape xs ∷ range xs ∷ []) out r X
 
-  pub range_refuses : {X : Type 0} (out : List ℕ) (at : ℕ) → k ≡ TableCheck.Range at →
-      let r = result_of (Range at) out in
-      Refused bare (shape xs) out r ⊎ (Clear (shape xs) × (Refused bare (range xs) out r ⊎ X))
-  range_refuses out at e =
-      let h = subst (TableChecked xs) e w in
-      h.0 past inl (refuse (range xs) out (Range at) refl h.1 refl)
-
-  module _ {n : ℕ} (e : k ≡ TableCheck.Sound n) where
-    clear : Clear (shape xs) × Clear (range xs) × (length xs ≡ row_width * n)
-    clear = subst (TableChecked xs) e w
-
-    table_sound : Sound (table_of xs)
-    table_sound = sound_of_clear xs clear.0 clear.1
-
-    pub slice_sound : SoundSlice xs
-    slice_sound = record { sound = table_sound; whole = let l = clear.2 in omega arith }
-
-    pub rest_answers : (X : Table → Result → Type 0) {out : List ℕ} {r : Result} → X (table_of xs) r →
-        Refused bare (shape xs) out r
-        ⊎ (Clear (shape xs) × (Refused bare (range xs) out r ⊎ (Clear (range xs) × X (table_of xs) r)))
-    rest_answers X x = clear.0 past clear.1 past x
-
--- the rows of a slice that is let through
-module _ {xs : List ℕ} (s : SoundSlice xs) where
-  pub rows_ask : ((table_of xs).n ≤ most_rows) × (length xs ≡ row_width * (table_of xs).n)
-  rows_ask = (s.sound.few, s.whole)
-
-  pub rows_sound : {tb : Table} → tb ≡ table_of xs → Sound tb
-  rows_sound same = subst Sound (sym same) s.sound
+  -- an answer for the table of the rows is one for the table that stands in the slice
+  pub rest_answers : (tasks : Tasks) → TableChecked xs (Ok tasks) → (X : Table → Result → Type 0) {r : Result} →
+      X (table_in tasks.rows tasks.n) r → Front (shape xs ∷ range xs ∷ []) out r (X (table_of xs) r)
+  rest_answers tasks w X {r} x =
+      front_clear (shape xs ∷ range xs ∷ []) out r (X (table_of xs) r) w.0 (subst (λ t. X t r) w.1.same x)
 
 -- the check 6
-module _ (tb : Table) (ps : List ℕ) {k : PlanCheck} (w : PlanChecked tb ps k) where
-  pub form_refuses : {X : Type 0} (out : List ℕ) (at : ℕ) → k ≡ AtFault at →
-      Refused bare (plan_form tb ps) out (result_of (Plan at) out) ⊎ X
-  form_refuses out at e = inl (refuse (plan_form tb ps) out (Plan at) refl (subst (PlanChecked tb ps) e w) refl)
-
-  pub form_clear : k ≡ WellFormed → Clear (plan_form tb ps)
-  form_clear e = subst (PlanChecked tb ps) e w
+module _ (tb : Table) (ps out : List ℕ) where
+  pub form_refuses : (r : Refusal) {X : Type 0} → PlanChecked tb ps (Err r) →
+      Front (plan_form tb ps ∷ []) out (result_of (Err r) out) X
+  form_refuses r {X} = front_refuses (plan_form tb ps ∷ []) out r X
 
 -- the check 2
 module _ (m : ℕ) (out : List ℕ) where
-  pub room_refuses : {X : Type 0} → length out < m → Refused bare (room m out) out (result_of Room out) ⊎ X
-  room_refuses h = inl (refuse (room m out) out Room refl (refl, h) refl)
+  pub room_refuses : {X : Type 0} → length out < m → Refused bare (room m out) out (result_of (Err Room) out) ⊎ X
+  room_refuses h = inl (refuse (room m out) out Room refl (refl, h))
 
   pub room_clear : m ≤ length out → Clear (room m out)
   room_clear fits place h = let l = h.1 in omega arith

@@ -8,7 +8,7 @@ use lib.ListN.{get_or}
 use Rattle.tables.specs.Table.{Table, SoundRow, region_end}
 use Rattle.tables.specs.Plan.{cap, longer}
 use Rattle.tables.specs.inside.Rows.{no, table_in, cap_in, longer_in}
-use Rattle.tables.specs.declared.Row.{Row}
+use Rattle.tables.specs.declared.task.Row.{Row}
 
 module _ (tb : Table) (i : ℕ) where
   pub cap_is : cap tb i ≡ tb.C i - region_end tb i

@@ -1,12 +1,13 @@
--- A case of the enum `Answer` that refuses.
+-- A refusal as the result that it stands for.
 use Prim.Native.Nat.{ℕ}
 use mathlib.Core.Path.{◌≡◌, refl}
 use mathlib.Core.List.{List}
+use Rattle.std.proofs.Common.{Err}
 use Rattle.tables.specs.Refusal.{Check, bare, Refused}
-use Rattle.tables.specs.Answer.{number_of, place_of, value_of, result_of}
-use Rattle.tables.specs.declared.Answer.{Answer}
+use Rattle.tables.specs.Answer.{refusal_number, refusal_place, result_of}
+use Rattle.tables.specs.declared.answer.Refusal.{Refusal}
 
--- a case with the check's number, at a place where it hits, and nothing written
-pub refuse : (c : Check) (out : List ℕ) (a : Answer) → number_of a ≡ c.number → c.hits (place_of a) → value_of a ≡ 0 →
-    Refused bare c out (result_of a out)
-refuse c out a n h v = record { number = n; place = h; value = v; unwritten = refl }
+-- a refusal with the check's number, at a place where it hits, and nothing written
+pub refuse : (c : Check) (out : List ℕ) (r : Refusal) → refusal_number r ≡ c.number → c.hits (refusal_place r) →
+    Refused bare c out (result_of (Err r) out)
+refuse c out r n h = record { number = n; place = h; value = refl; unwritten = refl }

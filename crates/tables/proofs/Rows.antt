@@ -1,24 +1,49 @@
 -- Laws of the rows in an array: stores below a row, and the array that holds a slice's table.
-use Prim.Native.Nat.{ℕ, ◌+◌, ◌*◌, ◌<◌, ◌≤◌}
-use mathlib.Core.Path.{◌≡◌, sym, ap, ◌∙◌}
+use Prim.Native.Nat.{ℕ, zero, suc, ◌+◌, ◌*◌, ◌<◌, ◌≤◌}
+use mathlib.Core.Path.{◌≡◌, refl, sym, ap, ◌∙◌}
 use mathlib.Core.List.{List}
 use native.Mathlib.Omega.{arith}
-use lib.ListN.{length, get_or, set, replicate, length-replicate, get_or-replicate, get_or-eq_default}
-use lib.Seq.{get_or-set_same, get_or-set_other}
+use lib.ListN.{length, get_or, set, take, drop, replicate, length-replicate, get_or-replicate, get_or-eq_default}
+use lib.Seq.{get_or-set_same, get_or-set_other, get_or-take, get_or-drop, drop-drop}
+use Rattle.std.specs.Simd.{first_chunks}
 use Rattle.counting.proofs.Cases.{by_le, by_eq}
 use Rattle.tables.specs.Table.{row_width, table_of}
-use Rattle.tables.specs.inside.Rows.{no, table_in}
-use Rattle.tables.specs.declared.Row.{Row}
+use Rattle.tables.specs.inside.Rows.{no, row_at, table_in}
+use Rattle.tables.specs.declared.task.Row.{Row}
 
--- the i-th five numbers of a slice
-abbrev pub row_at : List ℕ → ℕ → Row
-row_at xs i = record {
-  c = get_or xs (row_width * i) 0;
-  d = get_or xs (row_width * i + 1) 0;
-  t = get_or xs (row_width * i + 2) 0;
-  start = get_or xs (row_width * i + 3) 0;
-  region = get_or xs (row_width * i + 4) 0;
-}
+-- the i-th of the fives that a slice is cut into has the i-th row
+module _ (xs ds : List ℕ) where
+  five_at : (k i : ℕ) → i < k → get_or (first_chunks row_width k xs) i ds ≡ take row_width (drop (row_width * i) xs)
+  five_at k i = at k i xs
+    where
+      at : (k i : ℕ) (ys : List ℕ) → i < k →
+          get_or (first_chunks row_width k ys) i ds ≡ take row_width (drop (row_width * i) ys)
+      at zero i ys h = absurd (omega arith)
+      at (suc k) zero ys h = refl
+      at (suc k) (suc i) ys h =
+          let e : row_width * suc i ≡ row_width + row_width * i = omega arith in
+          rw e (at k i (drop row_width ys) (omega arith) ∙ ap (take row_width) (drop-drop (row_width * i) row_width ys))
+
+  pub five_row : {row : Row} (k i : ℕ) (fives : List (List ℕ)) → fives ≡ first_chunks row_width k xs → i < k →
+      row ≡ row_at (get_or fives i ds) 0 → row ≡ row_at xs i
+  five_row k i fives e h r = r ∙ ap (λ l. row_at (get_or l i ds) 0) e ∙ same
+    where
+      at : (j : ℕ) → j < row_width →
+          get_or (get_or (first_chunks row_width k xs) i ds) j 0 ≡ get_or xs (row_width * i + j) 0
+      at j l =
+          rw (five_at k i h)
+          (get_or-take row_width (drop (row_width * i) xs) j 0 l ∙ get_or-drop (row_width * i) xs j 0)
+
+      same : row_at (get_or (first_chunks row_width k xs) i ds) 0 ≡ row_at xs i
+      same =
+          let z : row_width * i + 0 ≡ row_width * i = omega arith in
+          λ x. record {
+            c = (at 0 (omega arith) ∙ ap (λ j. get_or xs j 0) z) x;
+            d = at 1 (omega arith) x;
+            t = at 2 (omega arith) x;
+            start = at 3 (omega arith) x;
+            region = at 4 (omega arith) x;
+          }
 
 -- A list holds f below i, and z from i on.
 module _ {A : Type 0} (z : A) (f : ℕ → A) where

@@ -1,76 +1,105 @@
 -- Any two results that the promise of a function of this crate allows are equal.
 use Prim.Native.Nat.{ℕ}
 use mathlib.Core.Path.{◌≡◌, refl, sym, ap, ◌∙◌}
+use mathlib.Core.Logic.{⊎_elim}
 use mathlib.Core.List.{List, [], ◌∷◌}
-use native.Mathlib.Omega.{arith}
 use lib.ListN.{length, get_or}
 use lib.Seq.{ext_get_or}
-use Rattle.tables.specs.Table.{Table}
-use Rattle.tables.specs.Refusal.{Result}
-use Rattle.tables.specs.Answer.{number_of, place_of, value_of, result_of}
+use Rattle.std.proofs.Common.{Ok, Err}
+use Rattle.std.specs.Prelude.{Result as OkOrErr}
+use Rattle.tables.specs.Table.{Table, row_width}
+use Rattle.tables.specs.Refusal.{Check, Result}
+use Rattle.tables.specs.Checks.{shape, range, plan_form}
+use Rattle.tables.specs.Answer.{Answer, Tells, refusal_number, refusal_place, result_of}
 use Rattle.tables.specs.inside.Rows.{no, table_in}
-use Rattle.tables.specs.inside.Checked.{TableChecked, PlanChecked}
-use Rattle.tables.specs.declared.Answer.{Answer}
-use Rattle.tables.specs.declared.Answer.TheVariants as answer
-use Rattle.tables.specs.declared.Said.{Said}
-use Rattle.tables.specs.declared.Row.{Row}
-use Rattle.tables.specs.declared.TableCheck.{TableCheck}
-use Rattle.tables.specs.declared.TableCheck.TheVariants.{Sound, Shape, Range}
-use Rattle.tables.specs.declared.PlanCheck.{PlanCheck}
-use Rattle.tables.specs.declared.PlanCheck.TheVariants.{WellFormed, AtFault}
-use Rattle.tables.proofs.Answered.{range_place, plan_form_place}
+use Rattle.tables.specs.inside.Checked.{AllClear, RefusedBy, TableChecked, PlanChecked}
+use Rattle.tables.specs.declared.answer.Refusal.{Refusal}
+use Rattle.tables.specs.declared.answer.Refusal.TheVariants as refusal
+use Rattle.tables.specs.declared.answer.Said.{Said}
+use Rattle.tables.specs.declared.task.Row.{Row}
+use Rattle.tables.specs.declared.task.Tasks.{Tasks}
+use Rattle.tables.proofs.Answered.{OnePlaces, shape_place, range_place, plan_form_place}
 
--- the case of the enum `Answer` by the paper's number
-abbrev case_of : Result → Answer
-case_of r =
-    let at = r.place in
+-- the answer by the paper's number, its place and its value
+abbrev case_of : ℕ → ℕ → ℕ → Answer
+case_of number at value =
     get_or
-    (answer.Given r.value ∷ answer.Shape ∷ answer.Room ∷ answer.Range at ∷ answer.NoBusy ∷ answer.NoPlan
-    ∷ answer.Plan at ∷ answer.JobsShape ∷ answer.Job at ∷ answer.Sheet at ∷ [])
-    r.number answer.Shape
+    (Ok value ∷ Err refusal.Shape ∷ Err refusal.Room ∷ Err (refusal.Range at) ∷ Err refusal.NoBusy ∷ Err refusal.NoPlan
+    ∷ Err (refusal.Plan at) ∷ Err refusal.JobsShape ∷ Err (refusal.Job at) ∷ Err (refusal.Sheet at) ∷ [])
+    number (Err refusal.Shape)
 
-case_told : (a : Answer) (out : List ℕ) → case_of (result_of a out) ≡ a
-case_told (answer.Given v) out = refl
-case_told (answer.Sheet at) out = refl
-case_told answer.Shape out = refl
-case_told (answer.Range at) out = refl
-case_told (answer.Plan at) out = refl
-case_told answer.JobsShape out = refl
-case_told (answer.Job at) out = refl
-case_told answer.Room out = refl
-case_told answer.NoBusy out = refl
-case_told answer.NoPlan out = refl
+refusal_told : (r : Refusal) → case_of (refusal_number r) (refusal_place r) 0 ≡ Err r
+refusal_told (refusal.Sheet at) = refl
+refusal_told refusal.Shape = refl
+refusal_told (refusal.Range at) = refl
+refusal_told (refusal.Plan at) = refl
+refusal_told refusal.JobsShape = refl
+refusal_told (refusal.Job at) = refl
+refusal_told refusal.Room = refl
+refusal_told refusal.NoBusy = refl
+refusal_told refusal.NoPlan = refl
+
+case_told : (a : Answer) (out : List ℕ) →
+    (let r = result_of a out in case_of r.number r.place r.value) ≡ a
+case_told (Ok v) out = refl
+case_told (Err r) out = refusal_told r
 
 -- where an operation has one result, it has one answer and one later content of its output
 pub answer_unique : (a b : Answer) (l m : List ℕ) → result_of a l ≡ result_of b m → (a ≡ b) × (l ≡ m)
-answer_unique a b l m e = (sym (case_told a l) ∙ ap case_of e ∙ case_told b m, ap (λ (r : Result). r.out) e)
-
--- what says an answer
-abbrev Tells : Answer → Said → Type 0
-Tells a r = (r.number ≡ number_of a) × (r.place ≡ place_of a) × (r.value ≡ value_of a)
+answer_unique a b l m e = (
+  sym (case_told a l) ∙ ap (λ (r : Result). case_of r.number r.place r.value) e ∙ case_told b m,
+  ap (λ (r : Result). r.out) e,
+)
 
 pub said_unique : (a : Answer) (r s : Said) → Tells a r → Tells a s → r ≡ s
 said_unique a r s p q =
     λ i. record { number = (p.0 ∙ sym q.0) i; place = (p.1 ∙ sym q.1) i; value = (p.2 ∙ sym q.2) i }
 
--- the checks of a task table and of a plan
-pub table_checked_unique : (xs : List ℕ) (a b : TableCheck) → TableChecked xs a → TableChecked xs b → a ≡ b
-table_checked_unique xs (Sound n) (Sound m) p q = ap Sound (let e = p.2 in let f = q.2 in omega arith)
-table_checked_unique xs (Sound n) Shape p q = absurd (p.0 0 q)
-table_checked_unique xs (Sound n) (Range at) p q = absurd (p.1 at q.1)
-table_checked_unique xs Shape (Sound m) p q = absurd (q.0 0 p)
-table_checked_unique xs Shape Shape p q = refl
-table_checked_unique xs Shape (Range at) p q = absurd (q.0 0 p)
-table_checked_unique xs (Range at) (Sound m) p q = absurd (q.1 at p.1)
-table_checked_unique xs (Range at) Shape p q = absurd (p.0 0 q)
-table_checked_unique xs (Range a) (Range b) p q = ap Range (range_place xs a b p.1 q.1)
+-- one number and one place are those of one refusal
+pub refusal_unique : (r s : Refusal) → refusal_number r ≡ refusal_number s → refusal_place r ≡ refusal_place s → r ≡ s
+refusal_unique r s n p =
+    let e : ◌≡◌ {A = Answer} (Err r) (Err s) = sym (refusal_told r) ∙ (λ i. case_of (n i) (p i) 0) ∙ refusal_told s in cc
 
-pub plan_checked_unique : (tb : Table) (ps : List ℕ) (a b : PlanCheck) → PlanChecked tb ps a → PlanChecked tb ps b →
-    a ≡ b
-plan_checked_unique tb ps WellFormed WellFormed p q = refl
-plan_checked_unique tb ps WellFormed (AtFault at) p q = absurd (p at q)
-plan_checked_unique tb ps (AtFault at) WellFormed p q = absurd (q at p)
-plan_checked_unique tb ps (AtFault a) (AtFault b) p q = ap AtFault (plan_form_place tb ps a b p q)
+-- checks that have one place each refuse with one refusal
+pub refused_by_unique : (cs : List Check) → OnePlaces cs → (r s : Refusal) → RefusedBy cs r → RefusedBy cs s → r ≡ s
+refused_by_unique [] one r s p q = absurd p
+refused_by_unique (c ∷ cs) one r s p q =
+    ⊎_elim
+    (λ a. ⊎_elim
+    (λ b. refusal_unique r s (a.0 ∙ sym b.0) (one.0 (refusal_place r) (refusal_place s) a.1 b.1))
+    (λ b. absurd (b.0 (refusal_place r) a.1))
+    q)
+    (λ a. ⊎_elim (λ b. absurd (a.0 (refusal_place s) b.1)) (λ b. refused_by_unique cs one.1 r s a.1 b.1) q)
+    p
+
+-- what two answers of the checks 1 and 3 have in common: one refusal, or one table
+abbrev pub Alike : OkOrErr Tasks Refusal → OkOrErr Tasks Refusal → Type 0
+Alike (Ok t) (Ok u) = table_in t.rows t.n ≡ table_in u.rows u.n
+Alike (Err r) (Err s) = r ≡ s
+Alike (Ok t) (Err s) = ⊥
+Alike (Err r) (Ok u) = ⊥
+
+-- a check that refuses is not clear
+refused_not_clear : (cs : List Check) (r : Refusal) → RefusedBy cs r → AllClear cs → ⊥
+refused_not_clear [] r b clear = b
+refused_not_clear (c ∷ cs) r b clear =
+    ⊎_elim (λ h. clear.0 (refusal_place r) h.1) (λ h. refused_not_clear cs r h.1 clear.1) b
+
+pub table_checked_unique : (xs : List ℕ) (a b : OkOrErr Tasks Refusal) → TableChecked xs a → TableChecked xs b →
+    Alike a b
+table_checked_unique xs (Ok t) (Ok u) p q = p.1.same ∙ sym q.1.same
+table_checked_unique xs (Ok t) (Err s) p q = refused_not_clear (shape xs ∷ range xs ∷ []) s q p.0
+table_checked_unique xs (Err r) (Ok u) p q = refused_not_clear (shape xs ∷ range xs ∷ []) r p q.0
+table_checked_unique xs (Err r) (Err s) p q =
+    refused_by_unique (shape xs ∷ range xs ∷ []) (shape_place row_width xs, (range_place xs, tt)) r s p q
+
+pub plan_checked_unique : (tb : Table) (ps : List ℕ) (a b : OkOrErr Unit Refusal) → PlanChecked tb ps a →
+    PlanChecked tb ps b → a ≡ b
+plan_checked_unique tb ps (Ok u) (Ok v) p q = refl
+plan_checked_unique tb ps (Ok u) (Err s) p q = absurd (refused_not_clear (plan_form tb ps ∷ []) s q (p, tt))
+plan_checked_unique tb ps (Err r) (Ok u) p q = absurd (refused_not_clear (plan_form tb ps ∷ []) r p (q, tt))
+plan_checked_unique tb ps (Err r) (Err s) p q =
+    ap Err (refused_by_unique (plan_form tb ps ∷ []) (plan_form_place tb ps, tt) r s p q)
 
 -- the rows of a task table: two arrays of one length that hold one table
 pub rows_unique : (a b : List Row) (n : ℕ) → length a ≡ length b → table_in a n ≡ table_in b n → a ≡ b

@@ -1,40 +1,44 @@
 -- `blocking_of` meets its contract: the most that a row below blocks with, of the rows passed.
-use Prim.Native.Nat.{pred, ℕ}
-use mathlib.Core.Path.{◌≡◌, sym, ap, ◌∙◌}
-use native.Mathlib.Omega.{arith}
-use borrow.Author.Rules.{rules}
+use Rattle.std.proofs.Common.{◌≡◌, arith, ap, ◌∙◌, sym}
 use Rattle.tables.specs.Plan.{plan_of}
-use Rattle.responses.specs.inside.Asked.{Blocking}
 use Rattle.responses.proofs.Plans.{longest_in, longest_none, longest_more, longest_same, longest_is}
+use Rattle.responses.proofs.Walk.{Turn, counted_begins, turn, walk_ends}
 use Rattle.responses.proofs.blocking_of.Goals as goal
-use Rattle.responses.proofs.blocking_of.Goals.{then-rank-plan, else-rank-plan, After-loop-i}
+use Rattle.responses.proofs.blocking_of.Goals.{In-Some}
+
+module _ (c : In-Some) where
+  hand : Turn c.args.plan.now c.in-Some.i c.in-Some.row.now c.loop-i.i-iterator c.next.new.self
+  hand = turn c.in-Some.row c.loop-i.invariant.0 c.in-Some.ensures.steps
+
+  passed : c.loop-i.longest ≡ longest_in (plan_of c.args.plan.now) c.args.blocks.now c.args.rank c.in-Some.i
+  passed = c.loop-i.invariant.1 ∙ ap (longest_in (plan_of c.args.plan.now) c.args.blocks.now c.args.rank) hand.is
 
 pub loop-i-init : goal.loop-i-init
-loop-i-init c = (search rules, sym (longest_none (plan_of c.args.plan.now) c.args.blocks.now c.args.rank))
+loop-i-init c =
+    let items = c.enumerate-i-items.ensures in
+    let chunks = c.chunks_exact.ensures in
+    let begun = counted_begins c.args.plan.now c.into_iter-i-iterator.ensures.into_iter_gives items.source items.count
+    chunks.rest chunks.size in
+    (begun.1, rw (← begun.0) (sym (longest_none (plan_of c.args.plan.now) c.args.blocks.now c.args.rank)))
+
+pub loop-i-preserved-then-rank-row : goal.loop-i-preserved-then-rank-row
+loop-i-preserved-then-rank-row c =
+    let s = (goal.at.loop-i-preserved-then-rank-row c).In-Some in
+    let h = hand s in
+    let more = longest_more (plan_of c.args.plan.now) c.args.blocks.now c.args.rank c.in-Some.i
+    (omega (arith, h.holds.rank)) in
+    (h.goes, rw (← h.next) (omega (arith, more, passed s)))
 
 pub loop-i-preserved : goal.loop-i-preserved
 loop-i-preserved c =
-    let a = c.args in
-    let more = longest_more (plan_of a.plan.now) a.blocks.now a.rank c.loop-i.i in
-    let same = longest_same (plan_of a.plan.now) a.blocks.now a.rank c.loop-i.i in (
-      search rules,
-      elim c.if-rank-plan.branch [
-        | then-rank-plan w ↦ omega (arith, more w.if-rank-plan.true, w.larger-longest.ensures, w.longest-is)
-        | else-rank-plan w ↦ omega (arith, same w.if-rank-plan.false, w.longest-is)
-      ],
-    )
-
--- all rows are passed
-blocked : (c : After-loop-i) (b : ℕ) → b ≡ pred c.loop-i.longest →
-    Blocking (plan_of c.args.plan.now) c.args.n c.args.blocks.now c.args.rank b
-blocked c b e =
-    let all : c.loop-i.i ≡ c.args.n = omega arith in
-    longest_is (plan_of c.args.plan.now) c.args.blocks.now c.args.rank c.args.n b
-    (e ∙ ap pred (c.loop-i.invariant.1 ∙ ap (longest_in (plan_of c.args.plan.now) c.args.blocks.now c.args.rank) all))
-
-pub returns-then-longest-eq0 : goal.returns-then-longest-eq0
-returns-then-longest-eq0 c =
-    blocked (goal.at.returns-then-longest-eq0 c).After-loop-i 0 (let t = c.if-longest-eq0.true in omega arith)
+    let s = (goal.at.loop-i-preserved c).In-Some in
+    let h = hand s in
+    let same = longest_same (plan_of c.args.plan.now) c.args.blocks.now c.args.rank c.in-Some.i
+    (omega (arith, h.holds.rank)) in
+    (h.goes, rw (← h.next) (omega (arith, same, passed s)))
 
 pub returns : goal.returns
-returns c = blocked (goal.at.returns c).After-loop-i _ (omega arith)
+returns c =
+    let n = walk_ends c.loop-i.invariant.0 _ c.in-None.ensures.steps.0 in
+    longest_is (plan_of c.args.plan.now) c.args.blocks.now c.args.rank _ _
+    (omega (arith, ap (longest_in (plan_of c.args.plan.now) c.args.blocks.now c.args.rank) n))

@@ -1,15 +1,16 @@
 -- What the functions of the response times ask for and answer.
-use Rattle.std.specs.Prelude.{ℕ, pred, ◌*◌, ◌≤◌, ◌<◌, ◌≡◌, true, false, List, length, get_or}
+use Rattle.std.specs.Prelude.{ℕ, pred, ◌*◌, ◌/◌, ◌≤◌, ◌<◌, ◌≡◌, true, false, List, length, get_or}
 use Rattle.counting.specs.Sum.{given, largest}
 use Rattle.marks.specs.inside.Marks.{marked, Where}
 use Rattle.tables.specs.Table.{Table, Sound, most_rows}
 use Rattle.tables.specs.Plan.{Plan, WellFormed, plan_width, plan_of, blocks}
 use Rattle.test.specs.Test.{horizon, BusyWithin, Active, above, below, ResponseOf}
+use Rattle.sides.specs.declared.ask.Ask.{Ask}
 use Rattle.sides.specs.inside.Asks.{Asks}
 
 -- row i of a sound table, with the rows of the set above it, blocking b and length q, has an active period up to H; and
 -- what the table's rows ask with
-pub record Ranked (tb : Table) (asks : List ℕ) (set b i q : ℕ) : Type 0 where
+pub record Ranked (tb : Table) (asks : List Ask) (set b i q : ℕ) : Type 0 where
   pub sound : Sound tb
   pub asked : Asks tb asks
   pub inside : (j : ℕ) → marked set j ≡ true → j < tb.n
@@ -20,6 +21,10 @@ pub record Ranked (tb : Table) (asks : List ℕ) (set b i q : ℕ) : Type 0 wher
   pub period : ℕ
   pub active : Active tb (marked set) b i period
   pub within : period ≤ horizon
+
+-- how many rows stand in a plan
+abbrev pub plan_rows : List ℕ → ℕ
+plan_rows ps = length ps / plan_width
 
 -- the set marks the rows below n of higher rank than r, and no others
 abbrev pub Above : Plan → ℕ → ℕ → ℕ → Type 0

@@ -1,7 +1,7 @@
 -- The task table that stands in an array of row structs, and a slice that its rows may be read from.
 use Rattle.std.specs.Prelude.{ℕ, ◌+◌, ◌-◌, ◌*◌, max, ◌≤◌, ◌<◌, ◌≡◌, List, length, get_or}
 use Rattle.tables.specs.Table.{Table, Sound, row_width, table_of}
-use Rattle.tables.specs.declared.Row.{Row}
+use Rattle.tables.specs.declared.task.Row.{Row}
 
 -- a slice that the checks 1 and 3 have let through: whole rows of a sound table
 pub record SoundSlice (xs : List ℕ) : Type 0 where
@@ -11,6 +11,17 @@ pub record SoundSlice (xs : List ℕ) : Type 0 where
 -- what stands past the last row
 abbrev pub no : Row
 no = record { c = 0; d = 0; t = 0; start = 0; region = 0 }
+
+-- the i-th five numbers of a slice
+abbrev pub row_at : List ℕ → ℕ → Row
+row_at xs i =
+    record {
+      c = get_or xs (row_width * i) 0;
+      d = get_or xs (row_width * i + 1) 0;
+      t = get_or xs (row_width * i + 2) 0;
+      start = get_or xs (row_width * i + 3) 0;
+      region = get_or xs (row_width * i + 4) 0;
+    }
 
 -- the table of the first n rows
 abbrev pub table_in : List Row → ℕ → Table

@@ -9,36 +9,32 @@ use Rattle.sides.proofs.periods.busy_period.Goals as goal
 
 pub loop-next-init : goal.loop-next-init
 loop-next-init c =
-    let s = c.before.before.before in
-    let level = s.args.level.now in
+    let level = c.args.level.now in
     let first : c.runs_of-runs.result ≡ busy_of level 1 = omega (arith, c.runs_of-runs.ensures, later_none level) in
-    climbs (busy_of_mono level) (climbing_lo (busy_of level) 1 s.requires.1) first
+    climbs (busy_of_mono level) (climbing_lo (busy_of level) 1 c.requires.1) first
 
 pub busy_side-next-requires : goal.busy_side-next-requires
 busy_side-next-requires c =
-    let r = c.before.before.before in
-    let h = c.if-next-gt-HORIZON.false in
-    (r.requires.0, r.runs_of-runs.ensures, c.loop-next.invariant.low, omega arith)
+    (c.requires.0, c.runs_of-runs.ensures, c.loop-next.invariant.low, omega (arith, c.if-next-gt-HORIZON.false))
 
 pub loop-next-smaller : goal.loop-next-smaller
 loop-next-smaller c =
-    let b = c.before.before in
-    let l = b.loop-next in
-    omega (arith, l.invariant.up, b.busy_side-next.ensures, c.if-next-t.false, b.if-next-gt-HORIZON.false)
+    omega (
+      arith,
+      c.loop-next.invariant.up,
+      c.busy_side-next.ensures,
+      c.if-next-t.false,
+      c.if-next-gt-HORIZON.false,
+    )
 
 pub loop-next-preserved : goal.loop-next-preserved
-loop-next-preserved c =
-    let b = c.before.before in
-    climbs (busy_of_mono _) b.loop-next.invariant b.busy_side-next.ensures
+loop-next-preserved c = climbs (busy_of_mono _) c.loop-next.invariant c.busy_side-next.ensures
 
 pub returns-then-next-gt-HORIZON : goal.returns-then-next-gt-HORIZON
 returns-then-next-gt-HORIZON c t x h = omega (arith, c.loop-next.invariant.under t x.low x.holds, c.if-next-gt-HORIZON.true)
 
 pub returns-then-next-t : goal.returns-then-next-t
-returns-then-next-t c =
-    let b = c.before.before in
-    let h = b.if-next-gt-HORIZON.false in
-    (climbing_stops b.loop-next.invariant (sym c.if-next-t.true ∙ b.busy_side-next.ensures), omega arith)
-
-pub runs_of-runs-requires : goal.runs_of-runs-requires
-runs_of-runs-requires c = c.requires.0
+returns-then-next-t c = (
+  climbing_stops c.loop-next.invariant (sym c.if-next-t.true ∙ c.busy_side-next.ensures),
+  omega (arith, c.if-next-gt-HORIZON.false),
+)
