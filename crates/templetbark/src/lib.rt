@@ -16,7 +16,7 @@ use tables::Said;
 pub fn tb_plan(table: &[u32], out: &mut [u32]) -> Said
     ensures { PlanAnswer table.now out.old (said_of result out.new) }
 {
-    tables::say(plan::plan(table, out))
+    plan::plan(table, out).into()
 }
 
 // times: the response of each row of a table under a plan that is given.
@@ -24,14 +24,14 @@ pub fn tb_times(table: &[u32], plan: &[u32], out: &mut [u32]) -> Said
     ensures { TimesAnswer table.now plan.now out.old
         (said_of result out.new) }
 {
-    tables::say(times::times(table, plan, out))
+    times::times(table, plan, out).into()
 }
 
 // verdict: 1 where no row's response passes its deadline under the plan that is given, and 0 where one does.
 pub fn tb_verdict(table: &[u32], plan: &[u32]) -> Said
     ensures { VerdictAnswer table.now plan.now (said_of result []) }
 {
-    tables::say(times::verdict(table, plan))
+    times::verdict(table, plan).into()
 }
 
 // play: when each job of a list finishes, under the kernel's dispatch rule and a plan that is given.
@@ -39,28 +39,28 @@ pub fn tb_play(table: &[u32], plan: &[u32], jobs: &[u32], out: &mut [u32]) -> Sa
     ensures { PlayAnswer table.now plan.now jobs.now out.old
         (said_of result out.new) }
 {
-    tables::say(play::play(table, plan, jobs, out))
+    play::play(table, plan, jobs, out).into()
 }
 
 // sheet: the task table in ticks that a sheet's text says.
 pub fn tb_sheet(text: &[u8], out: &mut [u32]) -> Said
     ensures { SheetAnswer text.now out.old (said_of result out.new) }
 {
-    tables::say(sheet::sheet(text, out))
+    sheet::sheet(text, out).into()
 }
 
 // print: the text of a planned table, at the front of the lent buffer.
 pub fn tb_print(planned: &[u32], buf: &mut [u8]) -> Said
     ensures { PrintAnswer planned.now buf.old (said_of result buf.new) }
 {
-    tables::say(printing::print_into(planned, buf))
+    printing::print_into(planned, buf).into()
 }
 
 // fit: what print answers for a buffer of this length, with nothing lent to write to.
 pub fn tb_fit(planned: &[u32], len: usize) -> Said
     ensures { FitAnswer planned.now len (said_of result []) }
 {
-    tables::say(printing::fit(planned, len))
+    printing::fit(planned, len).into()
 }
 
 // print, for callers in Rattle: hands back that front of the lent buffer, empty on a refusal.

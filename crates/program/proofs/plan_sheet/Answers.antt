@@ -3,7 +3,7 @@ use Rattle.std.proofs.Common.{ℕ, List, ◌≡◌, take}
 use Rattle.std.specs.Borrow.{Bor}
 use Rattle.std.proofs.lemmas.Result.{IfOk-weaker, IfErr-weaker, err_from_is_err_and}
 use Rattle.tables.specs.Checks.{Rows}
-use Rattle.tables.specs.declared.Said.{Said}
+use Rattle.tables.specs.declared.answer.Said.{Said}
 use Rattle.choice.specs.Answers.{planned_width, PlanAnswer}
 use Rattle.printing.specs.Printed.{plan_text, refused_line}
 use Rattle.templetbark.specs.Said.{said_of}
