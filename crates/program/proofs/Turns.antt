@@ -9,10 +9,12 @@ use Rattle.std.specs.Result.{MatchResult, IfOk, IsErrAnd}
 use Rattle.std.specs.Io.KnownBytes.{Consumes, Appends, IsAtEnd}
 use Rattle.std.proofs.lemmas.Slice.{take-put_mid_below}
 use Rattle.std.proofs.lemmas.List.{append-nil}
-use Rattle.std.proofs.lemmas.Result.{IfOk-at_ok}
+use Rattle.std.proofs.lemmas.Result.{err_from_is_err_and}
 use borrow.Rule.Slice.PartMut.{put_mid, post_of}
 use lib.Seq.{take-append-le, take-add}
 use Rattle.counting.proofs.Cases.{by_le}
+use Rattle.program.specs.declared.Fault.{Fault}
+use Rattle.program.specs.declared.Fault.TheVariants.{Unwritten}
 use Rattle.program.specs.Reply.{Page}
 use Rattle.program.specs.Run.{WritesPage}
 use Rattle.sheet.proofs.Fronts.{longest_sheet}
@@ -27,12 +29,6 @@ read_front n room k buf got within fits =
     let front : take n new ≡ take n buf = take-put_mid_below _ _ _ _ _ (omega arith) within in
     let rest : take k (drop n new) ≡ take k got = ap (take k) (drop_at (take n buf) (got ++ after) n (length-take-le n buf within)) ∙ take-append-le k got after fits in
     ap (λ l. l ++ take k got) (sym front) ∙ ap (λ l. take n new ++ l) (sym rest) ∙ sym (take-add n k new)
-
--- what holds of a value holds of it past a change of the error
-pub past_map_err : {X E F : Type 0} (P : X → Type 0) (Q : E → F → Type 0) (r : Result X E) (m : Result X F) (x : X)
-    → MatchResult r (λ y. m ≡ Ok y) (λ e. IsErrAnd m (Q e)) → m ≡ Ok x → IfOk r P → P x
-past_map_err P Q (Ok y) m x same is holds = IfOk-at_ok P is (rw same holds)
-past_map_err P Q (Err e) m x failed is holds = absurd (rw is at failed)
 
 -- what was read is the input up to the size of the buffer
 read_all : (text rest front : List ℕ) (k : ℕ) → text ≡ front ++ rest → length front ≤ k → (length front < k → rest ≡ [])
@@ -50,3 +46,11 @@ page_written None b old new front k page c within end long p q = tt
 page_written (Some text) None old new front k page c within end long p q = absurd c
 page_written (Some text) (Some rest) old new front k page c within end long p q =
     (page, page_cut text k page long (subst (λ t. Page t page) (sym (read_all text rest front k c within end)) p), q)
+
+-- a run that ends in a write comes to `Unwritten` where the write fails, and to what it wrote where it does not
+pub write_comes : {E : Type 0} (a old new : Option (List ℕ)) (Q : E → Fault → Type 0)
+    (r : Result (Unit {0}) E) (m : Result (Unit {0}) Fault) → MatchResult r (λ x. m ≡ Ok x) (λ e. IsErrAnd m (Q e))
+    → ((e : E) (f : Fault) → Q e f → f ≡ Unwritten) → IfOk r (λ x. WritesPage a old new (Ok tt)) → WritesPage a old new m
+write_comes a old new Q (Ok x) m same named written = rw same written
+write_comes a old new Q (Err e) m failed named written =
+    let p = err_from_is_err_and m failed in rw (p.1, named e p.0 p.2) tt

@@ -102,8 +102,7 @@ pub fn answer<R: Read, W: Write>(input: &mut R, output: &mut W) -> Result<(), Fa
     let mut page = [0u8; 4096];
     output
         .write_all(reply(&text[..n], &mut page))
-        .map_err(|_| Fault::Unwritten)?;
-    Ok(())
+        .map_err(|_| Fault::Unwritten)
 }
 
 // Answers standard input on standard output; what went wrong is said on standard error, if it can be.
