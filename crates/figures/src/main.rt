@@ -8,7 +8,8 @@ use std::io;
 use tables::{JOB_WIDTH, MOST_ROWS, PLANNED_WIDTH, ROW_WIDTH, Said, TIMES_WIDTH};
 use text::{Answer, Numbers, Refused, Rows};
 
-// The tables that several figures are about.
+// The tables that several figures are about: two rows, three, and two of which the first has a middle region, late, soon
+// or short.
 const TWO: [u32; 10] = [2, 5, 5, 0, 0, 4, 7, 7, 0, 0];
 
 const THREE: [u32; 15] = [1, 4, 4, 0, 0, 1, 6, 6, 0, 0, 4, 12, 12, 0, 0];
@@ -20,7 +21,7 @@ const SOON: [u32; 10] = [5, 20, 20, 0, 3, 1, 9, 9, 0, 0];
 const SHORT: [u32; 10] = [5, 20, 20, 1, 2, 1, 9, 9, 0, 0];
 
 fn main(rt: HostRuntime) -> io::Result<()> {
-    tasks(&rt)?;
+    first(&rt)?;
     rounded(&rt)?;
     with_regions(&rt)?;
     played_regions(&rt)?;
@@ -28,8 +29,8 @@ fn main(rt: HostRuntime) -> io::Result<()> {
     sheet_regions(&rt)
 }
 
-// Tables without a middle region: planned, timed, played, refused, and two sheets.
-fn tasks(rt: &impl Print) -> io::Result<()> {
+// The figures of document 01.
+fn first(rt: &impl Print) -> io::Result<()> {
     let tables: [&[u32]; 5] = [
         &[1, 1, 1, 0, 0],
         &TWO,
