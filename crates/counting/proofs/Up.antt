@@ -1,10 +1,11 @@
 -- Laws of rounding up: it is the least m with t ≤ m · d, it never falls as t grows and never rises as d grows.
-use Prim.Native.Nat.{ℕ, zero, suc, ◌+◌, ◌-◌, ◌*◌, ◌/◌, ◌≤◌, ◌<◌}
+use Prim.Native.Nat.{ℕ, zero, suc, ◌+◌, ◌-◌, ◌*◌, ◌/◌, ◌%◌, min, ◌≤◌, ◌<◌}
 use mathlib.Core.Path.{◌≡◌, ap, ◌∙◌}
 use native.Mathlib.Omega.{arith}
 use native.Mathlib.Nat.{mul-le-mul_left, le-div_iff_mul-le, div-lt_iff_lt-mul, div-mul-le_self, lt-div-mul-add}
 use native.Mathlib.Nat.{div-zero, add-div_right}
 use Rattle.counting.specs.Up.{up}
+use Rattle.counting.proofs.Cases.{by_eq}
 
 pub div_mono : (d : ℕ) {a b : ℕ} → a ≤ b → a / d ≤ b / d
 div_mono zero {a} {b} h = omega (arith, div-zero a, div-zero b)
@@ -24,6 +25,15 @@ up_le {d} t m p h = let q : (t + (d - 1)) / d < suc m = (div-lt_iff_lt-mul p).1 
 pub lt_up : {d : ℕ} (t m : ℕ) → 0 < d → m * d < t → m < up t d
 unfolding up
 lt_up {d} t m p h = (le-div_iff_mul-le {x = suc m} p).1 (omega arith)
+
+-- the whole quotient, and one more where there is a remainder
+pub up_div : {d : ℕ} (t : ℕ) → 0 < d → t / d + min 1 (t % d) ≡ up t d
+up_div {d} t p =
+    let q = t / d in
+    let low : q < suc (up t d) = (div-lt_iff_lt-mul p).1 (omega (arith, le_up t p)) in
+    by_eq (t % d) 0
+    (λ e. omega (arith, up_le t q p (omega arith)))
+    (λ e. omega (arith, up_le t (suc q) p (omega arith), lt_up t q p (omega arith)))
 
 pub up_mono : (d : ℕ) {a b : ℕ} → a ≤ b → up a d ≤ up b d
 unfolding up

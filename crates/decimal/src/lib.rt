@@ -1,13 +1,13 @@
-// Decimal text and words into a lent buffer at a place; the promises say the whole buffer.
+// Decimal text and words into a lent buffer, one behind the other; the promises say the whole buffer.
 #![tactic(auto)]
 
-ghost use Rattle.std.specs.Prelude.{◌≡◌, ◌++◌, ◌+◌, ◌≤◌, length};
+ghost use Rattle.std.specs.Prelude.{◌≡◌, ◌++◌, ◌≤◌, length};
 ghost use Rattle.decimal.specs.Decimal.{decimal};
-ghost use Rattle.decimal.specs.inside.Placed.{Put};
+ghost use Rattle.decimal.specs.inside.Placed.{Room, Writes};
 
-// How many bytes the decimal text of x has.
+// How many bytes the decimal text of x has, ten at most.
 pub fn width(x: u32) -> usize
-    ensures { result ≡ length (decimal x) }
+    ensures { (result ≡ length (decimal x)) × (result ≤ 10) }
 {
     if x < 10 {
         return 1;
@@ -15,41 +15,68 @@ pub fn width(x: u32) -> usize
     width(x / 10) + 1
 }
 
-// The decimal text of x from the place `at` on, written from its last digit back; the place behind it.
-pub fn put_number(buf: &mut [u8], at: usize, x: u32) -> usize
-    requires { at + length (decimal x) ≤ length buf.old }
-    ensures { Put buf.old at (decimal x) buf.new result }
+// The decimal text of x, from its last digit back.
+fn put_digits(digits: &mut [u8], x: u32)
+    requires { length digits.old ≡ length (decimal x) }
+    ensures { digits.new ≡ decimal x }
 {
-    let behind = at + width(x);
-    let mut place = behind - 1;
     let mut rest = x;
-    while 10 <= rest {
-        buf[place] = (48 + rest % 10) as u8;
-        place -= 1;
+    for place in (0..digits.len()).rev() {
+        digits[place] = b'0' + (rest % 10) as u8;
         rest /= 10;
     }
-    buf[place] = (48 + rest) as u8;
-    behind
 }
 
-// A word from the place `at` on; the place behind it.
-pub fn put_word(buf: &mut [u8], at: usize, word: &[u8]) -> usize
-    requires { at + length word.now ≤ length buf.old }
-    ensures { Put buf.old at word.now buf.new result }
-{
-    let mut i: usize = 0;
-    while i < word.len() {
-        buf[at + i] = word[i];
-        i += 1;
+// A lent buffer, and the place behind what has been written to it.
+#[derive(Drop)]
+pub struct Written<'a> {
+    buf: &'a mut [u8],
+    at: usize,
+}
+
+impl<'a> Written<'a> {
+    // From the first byte on.
+    pub fn new(buf: &'a mut [u8]) -> Self
+        ensures same_buffer { result.buf.ghost_name ≡ buf.entry.ghost_name }
+        ensures whole { result.buf.now ≡ buf.old }
+        ensures first { result.at ≡ 0 }
+    {
+        Written { buf, at: 0 }
     }
-    at + i
-}
 
-// A word and a number behind it; the place behind both.
-pub fn put_field(buf: &mut [u8], at: usize, word: &[u8], x: u32) -> usize
-    requires { at + length (word.now ++ decimal x) ≤ length buf.old }
-    ensures { Put buf.old at (word.now ++ decimal x) buf.new result }
-{
-    let behind = put_word(buf, at, word);
-    put_number(buf, behind, x)
+    // The place behind what has been written.
+    pub fn at(&self) -> usize
+        ensures { result ≡ self.now.at }
+    {
+        self.at
+    }
+
+    // A word.
+    pub fn word(&mut self, word: &[u8])
+        requires { Room self.old word.now }
+        ensures { Writes self.old word.now self.new }
+    {
+        let behind = self.at + word.len();
+        self.buf[self.at..behind].copy_from_slice(word);
+        self.at = behind;
+    }
+
+    // A number in decimal.
+    pub fn number(&mut self, x: u32)
+        requires { Room self.old (decimal x) }
+        ensures { Writes self.old (decimal x) self.new }
+    {
+        let behind = self.at + width(x);
+        put_digits(&mut self.buf[self.at..behind], x);
+        self.at = behind;
+    }
+
+    // A word and a number behind it.
+    pub fn field(&mut self, word: &[u8], x: u32)
+        requires { Room self.old (word.now ++ decimal x) }
+        ensures { Writes self.old (word.now ++ decimal x) self.new }
+    {
+        self.word(word);
+        self.number(x);
+    }
 }

@@ -1,3 +1,4 @@
 -- The laws of the crate `decision`.
+pub mod First
 pub mod Order
 pub mod Unique

@@ -12,7 +12,8 @@ use Rattle.counting.proofs.Search.{by_any}
 use Rattle.counting.proofs.Sum.{given_no, sum_zero, sum_lt, sum_once, sum_swap}
 use Rattle.tables.specs.Table.{Table}
 use Rattle.tables.specs.Plan.{Plan, WellFormed}
-use Rattle.decision.specs.inside.Decision.{ByRank, Foremost}
+use Rattle.decision.specs.declared.Head.{Head}
+use Rattle.decision.specs.inside.Decision.{ByRank, job_in}
 
 -- n numbers below n, none of them twice, are all the numbers below n
 taken : (f : ℕ → ℕ) (n : ℕ) → ((i : ℕ) → i < n → f i < n) →
@@ -45,10 +46,11 @@ module _ {tb : Table} {p : Plan} {order : List ℕ} (wf : WellFormed tb p) (b : 
       let s : p.rank j - 1 < tb.n = omega (arith, wf.rank_high j l) in
       wf.once (get_or order (p.rank j - 1) 0) j (b.row _ s) l (omega (arith, b.rank _ s))
 
-  -- a row that waits stands at the foremost's place or after it
-  pub foremost_first : {heads : List ℕ} {next r : ℕ} → Foremost order heads tb.n next r → (j : ℕ) → j < tb.n →
-      get_or heads j 0 < next → r < p.rank j
-  foremost_first {heads} {next} {r} fm j l w =
+  -- a row that waits stands behind the places whose rows do not
+  pub foremost_first : (heads : List Head) (next r : ℕ) → r ≤ tb.n →
+      ((s : ℕ) → s < r → next ≤ job_in heads (get_or order s 0)) → (j : ℕ) → j < tb.n →
+      job_in heads j < next → r < p.rank j
+  foremost_first heads next r few none j l w =
       let low = wf.rank_low j l in
-      let here = ap (λ i. get_or heads i 0) (placed j l) in
-      by_le (p.rank j) r (λ h. absurd (omega (arith, fm.none (p.rank j - 1) (omega arith)))) (λ h. h)
+      let here = ap (job_in heads) (placed j l) in
+      by_le (p.rank j) r (λ h. absurd (omega (arith, none (p.rank j - 1) (omega arith)))) (λ h. h)

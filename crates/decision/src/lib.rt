@@ -1,14 +1,22 @@
 // What play decides with: which job of a row is next, which release is next, which row's job runs, and how long.
 #![tactic(auto)]
 
-ghost use Rattle.std.specs.Prelude.{◌≡◌, ℕ, ◌≤◌, ◌<◌, get_or};
-ghost use Rattle.tables.specs.Table.{table_of, most, most_rows};
-ghost use Rattle.tables.specs.Plan.{plan_of};
-ghost use Rattle.tables.specs.Jobs.{jobs_of};
-ghost use Rattle.decision.specs.inside.Decision.{Following, Heads, Released, ByRank, Foremost, HeldTo, Stretch};
-ghost use Rattle.decision.specs.inside.Decision.{Ruled};
+mod ruled;
 
-use tables::{JOB_WIDTH, PLAN_WIDTH, ROW_WIDTH};
+ghost use Rattle.std.specs.Prelude.{ℕ, ◌≤◌, ◌<◌, get_or, length};
+ghost use Rattle.tables.specs.Table.{most_rows};
+ghost use Rattle.tables.specs.Jobs.{jobs_of};
+ghost use Rattle.decision.specs.inside.Decision.{Following, Heads, Released, Foremost};
+
+pub use ruled::{Ruled, Running};
+use tables::{JOB_WIDTH, MOST_ROWS};
+
+// A row's earliest unfinished job, the number of jobs where there is none, and the ticks that it has executed.
+#[derive(Clone, Copy)]
+pub struct Head {
+    pub job: usize,
+    pub done: u32,
+}
 
 // The first job of row i from job `from` on, or the number of jobs.
 pub fn following(jobs: &[u32], i: u32, from: usize) -> usize
@@ -16,26 +24,19 @@ pub fn following(jobs: &[u32], i: u32, from: usize) -> usize
     ensures { Following (jobs_of jobs.now) i from result }
 {
     let many = jobs.len() / JOB_WIDTH;
-    let mut k = from;
-    while k < many {
-        if jobs[JOB_WIDTH * k] == i {
-            return k;
-        }
-        k += 1;
-    }
-    k
+    (from..many)
+        .find(|&k| jobs[JOB_WIDTH * k] == i)
+        .unwrap_or(many)
 }
 
-// Each row's first job, and 0 past the rows.
-pub fn first_jobs(jobs: &[u32], n: usize) -> [usize; 32]
+// Each row's first job, of which no tick is executed, and 0 past the rows.
+pub fn first_jobs(jobs: &[u32], n: usize) -> [Head; MOST_ROWS]
     requires { n ≤ most_rows }
     ensures { Heads (jobs_of jobs.now) n result }
 {
-    let mut heads: [usize; 32] = [0; 32];
-    let mut i: usize = 0;
-    while i < n {
-        heads[i] = following(jobs, i as u32, 0);
-        i += 1;
+    let mut heads = [Head { job: 0, done: 0 }; MOST_ROWS];
+    for i in 0..n {
+        heads[i].job = following(jobs, i as u32, 0);
     }
     heads
 }
@@ -46,96 +47,15 @@ pub fn released(jobs: &[u32], from: usize, t: u32) -> usize
     ensures { Released (jobs_of jobs.now) from t result }
 {
     let many = jobs.len() / JOB_WIDTH;
-    let mut k = from;
-    while k < many {
-        if t < jobs[JOB_WIDTH * k + 1] {
-            return k;
-        }
-        k += 1;
-    }
-    k
+    (from..many)
+        .find(|&k| t < jobs[JOB_WIDTH * k + 1])
+        .unwrap_or(many)
 }
 
-// The ticks that a job of row i has executed once it is not locked, or its whole run where it is locked to its end: of
-// its run e ticks are executed. Its middle region ends inside the job, its final one with it.
-fn held_to(table: &[u32], plan: &[u32], i: usize, e: u32, run: u32) -> u32
-    requires { Ruled table.now plan.now × (i < (table_of table.now).n) × (e < run) × (run ≤ most) }
-    ensures { HeldTo (table_of table.now) (plan_of plan.now) i e run result }
+// The first place of the order whose row's earliest unfinished job is released, if there is one.
+pub fn foremost(order: &[usize], heads: &[Head; MOST_ROWS], next: usize) -> Option<usize>
+    requires { (r : ℕ) → r < length order.now → get_or order.now r 0 < most_rows }
+    ensures { Foremost order.now heads.now next result }
 {
-    let at = ROW_WIDTH * i;
-    if table[at] < e + plan[PLAN_WIDTH * i + 1] {
-        return run;
-    }
-    let start = table[at + 3];
-    let end = start + table[at + 4];
-    if e <= start {
-        return e;
-    }
-    if end <= e {
-        return e;
-    }
-    if run < end {
-        return run;
-    }
-    end
-}
-
-// The rows by rank: the row of rank r at place r − 1, and 0 past the rows.
-pub fn by_rank(table: &[u32], plan: &[u32]) -> [usize; 32]
-    requires { Ruled table.now plan.now }
-    ensures { ByRank (table_of table.now) (plan_of plan.now) result }
-{
-    let n = table.len() / ROW_WIDTH;
-    let mut order: [usize; 32] = [0; 32];
-    let mut i: usize = 0;
-    while i < n {
-        let rank = plan[PLAN_WIDTH * i] as usize;
-        order[rank - 1] = i;
-        i += 1;
-    }
-    order
-}
-
-// The first place of the order whose row's earliest unfinished job is released, or the number of rows.
-pub fn foremost(order: &[usize; 32], heads: &[usize; 32], n: usize, next: usize) -> usize
-    requires { (n ≤ most_rows) × ((r : ℕ) → r < n → get_or order.now r 0 < n) }
-    ensures { Foremost order.now heads.now n next result }
-{
-    let mut r: usize = 0;
-    while r < n {
-        let i = order[r];
-        if heads[i] < next {
-            return r;
-        }
-        r += 1;
-    }
-    r
-}
-
-// How far one decision runs a job of row i that has executed e ticks and is not locked: to its end or to the next
-// release, whichever comes first; where it is locked at that release, on to the end of its region.
-pub fn stretch(
-    table: &[u32],
-    plan: &[u32],
-    jobs: &[u32],
-    i: usize,
-    e: u32,
-    run: u32,
-    next: usize,
-    t: u32,
-) -> u32
-    requires { Ruled table.now plan.now × (i < (table_of table.now).n) × (e < run) × (run ≤ most)
-        × (next < (jobs_of jobs.now).N → t < (jobs_of jobs.now).release next) }
-    ensures { Stretch (table_of table.now) (plan_of plan.now) (jobs_of jobs.now)
-        i e run next t result }
-{
-    let left = run - e;
-    if jobs.len() / JOB_WIDTH <= next {
-        return left;
-    }
-    let until = jobs[JOB_WIDTH * next + 1] - t;
-    if left <= until {
-        return left;
-    }
-    held_to(table, plan, i, e + until, run) - e
+    (0..order.len()).find(|&r| heads[order[r]].job < next)
 }

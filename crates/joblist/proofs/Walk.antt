@@ -32,7 +32,7 @@ pub record Walked (tb : Table) (js : Jobs) (k last : ℕ) (earliest : List ℕ) 
       ⊎ ((l : ℕ) × (l < k) × (js.row l ≡ i) × (js.release l + tb.T (js.row l) ≡ get_or earliest i 0))
 
 -- an array of zeros reads 0 everywhere
-pub zeros : (n i : ℕ) → get_or (replicate {A = ℕ} n 0) i 0 ≡ 0
+zeros : (n i : ℕ) → get_or (replicate {A = ℕ} n 0) i 0 ≡ 0
 zeros n i = (holds_none {A = ℕ} 0 (λ _. 0) n).past i (omega arith)
 
 pub walked_none : (tb : Table) (js : Jobs) → Walked tb js 0 0 (replicate {A = ℕ} most_rows 0)

@@ -1,87 +1,46 @@
 // The check of a job list: document 01's refusals 7 and 8, in one walk along the list.
 #![tactic(auto)]
 
-ghost use Rattle.std.specs.Prelude.{◌≡◌, ℕ, ◌+◌, ◌*◌, ◌≤◌, ◌<◌, length};
-ghost use Rattle.tables.specs.Table.{table_of, row_width, most_rows};
+ghost use Rattle.std.specs.Prelude.{◌<◌};
 ghost use Rattle.tables.specs.Jobs.{jobs_of};
+ghost use Rattle.tables.specs.inside.Rows.{table_in};
 ghost use Rattle.tables.specs.inside.Checked.{Says};
 ghost use Rattle.joblist.specs.inside.Listed.{KeepsAlone, ListSaid};
 
-use tables::{JOB_WIDTH, LAST_RELEASE, MOST_JOBS, ROW_WIDTH};
-
-// What the check says of a job list: well formed, with the number of its jobs; of no shape; or with a first job at
-// fault.
-#[derive(Drop)]
-pub enum Listed {
-    WellFormed(u32),
-    Shape,
-    AtFault(u32),
-}
+use tables::{JOB_WIDTH, LAST_RELEASE, MOST_JOBS, Refusal, Tasks};
 
 // Whether job k keeps the rules that it can break by itself.
-pub fn keeps_alone(table: &[u32], jobs: &[u32], k: usize) -> bool
-    requires { (length table.now ≤ row_width * most_rows) × (k < (jobs_of jobs.now).N) }
-    ensures { Says result (KeepsAlone (table_of table.now) (jobs_of jobs.now) k) }
+pub fn keeps_alone(tasks: &Tasks, jobs: &[u32], k: usize) -> bool
+    requires { k < (jobs_of jobs.now).N }
+    ensures { Says result (KeepsAlone (table_in tasks.now.rows tasks.now.n) (jobs_of jobs.now) k) }
 {
     let at = JOB_WIDTH * k;
-    let row = jobs[at];
+    let i = jobs[at] as usize;
     let release = jobs[at + 1];
     let run = jobs[at + 2];
-    let n = table.len() / ROW_WIDTH;
-    let i = row as usize;
-    if n <= i {
-        return false;
-    }
-    if LAST_RELEASE < release {
-        return false;
-    }
-    if run < 1 {
-        return false;
-    }
-    if table[ROW_WIDTH * i] < run {
-        return false;
-    }
-    true
-}
-
-// The earliest release of the row's next job.
-fn after(release: u32, spacing: u32) -> u64
-    ensures { result ≡ release + spacing }
-{
-    release as u64 + spacing as u64
+    i < tasks.n && release <= LAST_RELEASE && 1 <= run && run <= tasks.rows[i].c
 }
 
 // The walk keeps the last release, and for each row the earliest release that its next job may have.
-pub fn check_jobs(table: &[u32], jobs: &[u32]) -> Listed
-    requires { length table.now ≤ row_width * most_rows }
-    ensures { ListSaid (table_of table.now) jobs.now result }
+pub fn check_jobs(tasks: &Tasks, jobs: &[u32]) -> Result<u32, Refusal>
+    ensures { ListSaid (table_in tasks.now.rows tasks.now.n) jobs.now result }
 {
     let many = jobs.len() / JOB_WIDTH;
-    if jobs.len() % JOB_WIDTH != 0 {
-        return Listed::Shape;
+    if jobs.len() % JOB_WIDTH != 0 || MOST_JOBS < many {
+        return Err(Refusal::JobsShape);
     }
-    if MOST_JOBS < many {
-        return Listed::Shape;
-    }
-    let mut last: u32 = 0;
-    let mut earliest: [u64; 32] = [0; 32];
-    let mut k: usize = 0;
-    while k < many {
-        if !keeps_alone(table, jobs, k) {
-            return Listed::AtFault(k as u32);
-        }
+    let mut last = 0;
+    let mut earliest = [0; 32];
+    for k in 0..many {
         let at = JOB_WIDTH * k;
         let i = jobs[at] as usize;
         let release = jobs[at + 1];
-        if release < last {
-            return Listed::AtFault(k as u32);
+        let alone = keeps_alone(tasks, jobs, k);
+        if !alone || release < last || release < earliest[i] {
+            return Err(Refusal::Job(k as u32));
         }
-        if (release as u64) < earliest[i] {
-            return Listed::AtFault(k as u32);
-        }
-        earliest[i] = after(release, table[ROW_WIDTH * i + 2]);
+        earliest[i] = release + tasks.rows[i].t;
         last = release;
-        k += 1;
     }
-    Listed::WellFormed(many as u32)
+    Ok(many as u32)
 }

@@ -1,13 +1,21 @@
 -- Any two sets and any two rows that the promise of a function of this crate allows are equal.
 use Prim.Native.Nat.{ℕ, ◌^◌, ◌<◌}
-use mathlib.Core.Path.{◌≡◌, sym, ap, ◌∙◌}
+use mathlib.Core.Path.{◌≡◌, refl, sym, ap, ◌∙◌}
 use mathlib.Core.Bool.{Bool}
+use Rattle.std.specs.Prelude.{Option, Some, None}
+use Rattle.counting.proofs.Cases.{not_both}
 use Rattle.counting.proofs.Least.{least_unique}
-use Rattle.marks.specs.inside.Marks.{Whole, Where, Next, Both, Less, More}
+use Rattle.marks.specs.inside.Marks.{marked, Whole, Where, Next, Both, Placed, Less, More}
 use Rattle.marks.proofs.Marks.{same_marks, next_by_zeros}
 
 pub next_unique : {s a b : ℕ} → Next s a → Next s b → a ≡ b
 next_unique p q = least_unique p.first q.first
+
+pub placed_unique : (s i : ℕ) (a b : Option ℕ) → Placed s i a → Placed s i b → a ≡ b
+placed_unique s i (Some p) (Some q) x y = ap Some (x.1 ∙ sym y.1)
+placed_unique s i (Some p) None x y = not_both (marked s i) y x.0
+placed_unique s i None (Some q) x y = not_both (marked s i) x y.0
+placed_unique s i None None x y = refl
 
 -- sets of 32 rows
 module _ (a b : ℕ) (fits-a : a < 2 ^ 32) (fits-b : b < 2 ^ 32) where

@@ -10,7 +10,8 @@ use Rattle.tables.specs.Table.{Table, Sound}
 use Rattle.tables.specs.Plan.{Plan, plan_of}
 use Rattle.tables.specs.Refusal.{Clear, bare, Refused, Granted}
 use Rattle.tables.specs.Answer.{result_of}
-use Rattle.tables.specs.declared.Answer.TheVariants.{Given, NoPlan}
+use Rattle.std.proofs.Common.{Ok, Err}
+use Rattle.tables.specs.declared.answer.Refusal.TheVariants.{NoPlan}
 use Rattle.tables.proofs.Result.{refuse}
 use Rattle.test.specs.Test.{ResponseOf}
 use Rattle.test.proofs.Load.{sound_positive}
@@ -32,8 +33,8 @@ response_plans {tb} p p' {i} same l r =
     (agree_alike tb p p' s (same_agree tb p p' s same)).blocking r)
 
 pub stopped_refuses : {X : Type 0} {tb : Table} (out : List ℕ) → Stopped tb →
-    Refused bare (no_plan tb) out (result_of NoPlan out) ⊎ X
-stopped_refuses {X} {tb} out s = inl (refuse (no_plan tb) out NoPlan refl (refl, s) refl)
+    Refused bare (no_plan tb) out (result_of (Err NoPlan) out) ⊎ X
+stopped_refuses {X} {tb} out s = inl (refuse (no_plan tb) out NoPlan refl (refl, s))
 
 module _ {tb : Table} (sound : Sound tb) (plan times out : List ℕ) (chosen : Chosen tb (plan_of plan)) where
   pub chosen_clear : Clear (no_plan tb)
@@ -62,5 +63,5 @@ module _ {tb : Table} (sound : Sound tb) (plan times out : List ℕ) (chosen : C
           rest = written_rest plan times tb.n out fits;
         }
 
-    pub plan_given : Granted (PlanGiven tb out) (result_of (Given (planned_width * tb.n)) after)
+    pub plan_given : Granted (PlanGiven tb out) (result_of (Ok (planned_width * tb.n)) after)
     plan_given = record { number = refl; place = refl; given = given }

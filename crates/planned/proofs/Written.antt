@@ -1,24 +1,16 @@
 -- Laws of the planned table, as it is written part by part and as it is read row by row.
 use Prim.Native.Nat.{ℕ, zero, suc, ◌+◌, ◌*◌, ◌-◌, ◌≤◌, ◌<◌}
 use mathlib.Core.Path.{◌≡◌, refl, ap, sym, ◌∙◌}
-use mathlib.Core.List.{List, [], ◌∷◌, ◌++◌, append_assoc}
+use mathlib.Core.List.{List, [], ◌++◌, append_assoc}
 use native.Mathlib.Numerals.{add-one}
 use native.Mathlib.Omega.{arith}
-use lib.ListN.{length, get_or, drop, set, length-append, length-drop, get_or-append}
+use lib.ListN.{length, get_or, drop, length-append, length-drop, get_or-append}
 use lib.Seq.{take_at, drop_at, drop-drop, get_or-append-add}
 use borrow.Rule.Slice.PartMut.{put_mid}
 use Rattle.counting.proofs.Cases.{by_eq}
 use Rattle.tables.specs.Plan.{plan_width}
 use Rattle.tables.specs.Planned.{planned_width}
 use Rattle.planned.specs.inside.Planned.{row, planned}
-
--- three stores fill a row's part
-pub put_three : (l : List ℕ) (a b c : ℕ) → length l ≡ planned_width → set (set (set l 0 a) 1 b) 2 c ≡ row a b c
-put_three [] a b c h = absurd (omega arith)
-put_three (x ∷ []) a b c h = absurd (omega arith)
-put_three (x ∷ y ∷ []) a b c h = absurd (omega arith)
-put_three (x ∷ y ∷ z ∷ []) a b c h = refl
-put_three (x ∷ y ∷ z ∷ w ∷ l) a b c h = absurd (omega arith)
 
 -- a part that comes back behind a front p
 behind : (p r ys : List ℕ) (a k : ℕ) → length p ≡ a → put_mid a k (p ++ r) ys ≡ (p ++ ys) ++ drop k r

@@ -13,9 +13,7 @@ fn put_row(out: &mut [u32], rank: u32, len: u32, response: u32)
     requires { length out.old ≡ planned_width }
     ensures { out.new ≡ row rank len response }
 {
-    out[0] = rank;
-    out[1] = len;
-    out[2] = response;
+    out.copy_from_slice(&[rank, len, response]);
 }
 
 // The first n rows of a plan and its times in front, the remainder as it was.
@@ -23,14 +21,12 @@ pub fn write(plan: [u32; PLAN_WIDTH * MOST_ROWS], times: [u32; 32], n: usize, ou
     requires { (n ≤ most_rows) × (planned_width * n ≤ length out.old) }
     ensures { out.new ≡ planned plan times n ++ drop (planned_width * n) out.old }
 {
-    let mut i: usize = 0;
-    while i < n {
+    for i in 0..n {
         put_row(
             &mut out[PLANNED_WIDTH * i..PLANNED_WIDTH * i + PLANNED_WIDTH],
             plan[PLAN_WIDTH * i],
             plan[PLAN_WIDTH * i + 1],
             times[i],
         );
-        i += 1;
     }
 }

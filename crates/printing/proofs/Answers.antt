@@ -50,13 +50,6 @@ module _ (planned out : List ℕ) where
         g.1.given.many,
       )
 
-  -- what fit refuses is refused by print, and nothing is written
-  pub print_refused : {r : Result} → FitAnswer planned (length out) r → (r.number ≡ 0 → ⊥) →
-      PrintAnswer planned out (leaving out r)
-  print_refused {r} a n =
-      leave (fit_checks planned (length out)) (FitGiven planned) (PrintGiven planned out) [] out r
-      (λ g. absurd (n g.number)) a
-
   -- what print answers is fit's answer
   pub fit_of_print : {r : Result} → PrintAnswer planned out r → FitAnswer planned (length out) (leaving [] r)
   fit_of_print {r} a =

@@ -2,4 +2,5 @@
 pub mod Pieces
 pub mod Words
 pub mod Numbers
+pub mod Cursors
 pub mod Unique

@@ -10,9 +10,11 @@ use Rattle.decimal.specs.Decimal.{nought, digits, decimal}
 use Rattle.decimal.proofs.Decimal.{digits_zero, digits_last, digits_more, decimal_digits, some}
 use Rattle.reading.specs.Begins.{Begins, Between}
 use Rattle.reading.specs.inside.Piece.{OneOf, number_piece, Stops}
-use Rattle.reading.specs.inside.Read.{Digit, ReadsNumber, EndsNumber}
-use Rattle.reading.specs.declared.NumberRead.{NumberRead}
-use Rattle.reading.specs.declared.NumberRead.TheVariants as number
+use Rattle.std.proofs.Common.{Result, Ok, Err}
+use Rattle.reading.specs.inside.Grow.{Digit}
+use Rattle.reading.specs.inside.Read.{ReadsNumber, EndsNumber}
+use Rattle.reading.specs.declared.Cursor.{Cursor}
+use Rattle.reading.specs.declared.Number.{Number}
 use Rattle.reading.proofs.Pieces.{stops_behind, Code}
 
 -- s goes on with the digits that make w of v, and has the byte end behind them
@@ -162,20 +164,27 @@ module _ (least most end other : ℕ) (End-low : end < nought) (other-low : othe
       over b u (rw (← f.1) at hw.1) e)
 
   -- a number v that stands there, and what is found behind it
-  pub reads_end : (v : ℕ) (s : List ℕ) (at m : ℕ) (r : NumberRead) → Between least most v →
-      m ≡ at + length (decimal v) → drop at s ≡ decimal v ++ drop m s
-      → (((e : ℕ) (u : List ℕ) → OneOf end other e → drop m s ≡ e ∷ u → ⊥) →
-      Stops (number_piece least most end other) (drop at s) (length (decimal v)))
-      → EndsNumber v end other s m r → ReadsNumber least most end other s at r
-  reads_end v s at m (number.Past w e next) h reached split stops f =
-      rw f.0 (record {
-        allowed = (h, f.1);
-        within = f.3;
-        behind = omega (arith, f.2, length-append (decimal v) (e ∷ []));
-        split = cc (append_assoc (decimal v) (e ∷ []) (drop next.at s), f.4);
-      })
-  reads_end v s at m (number.Stuck place) h reached split stops f =
-      record { ahead = length (decimal v); reached = omega (arith, f.0); stops = stops f.1 }
+  pub reads_end : (v : ℕ) (c d : Cursor) (m : ℕ) (r : Result Number ℕ) → Between least most v →
+      m ≡ c.at + length (decimal v) → drop c.at c.text.now ≡ decimal v ++ drop m c.text.now
+      → (((e : ℕ) (u : List ℕ) → OneOf end other e → drop m c.text.now ≡ e ∷ u → ⊥) →
+      Stops (number_piece least most end other) (drop c.at c.text.now) (length (decimal v)))
+      → EndsNumber v end other m c d r → ReadsNumber least most end other c d r
+  reads_end v c d m (Ok n) h reached split stops f =
+      record {
+        text = f.2;
+        passed = rw f.0 (record {
+          allowed = (h, f.1);
+          within = f.4;
+          behind = omega (arith, f.3, length-append (decimal v) (n.end ∷ []));
+          split = cc (append_assoc (decimal v) (n.end ∷ []) (drop d.at c.text.now), f.5);
+        });
+      }
+  reads_end v c d m (Err place) h reached split stops f =
+      record {
+        text = f.1;
+        same = f.2;
+        stuck = record { ahead = length (decimal v); reached = omega (arith, f.0); stops = stops f.3 };
+      }
 
 -- one digit more
 pub number_grows : (v b r d : ℕ) (s u : List ℕ) → 1 ≤ r → Digit b d → r ≡ 10 * v + d → s ≡ digits v ++ (b ∷ u)

@@ -1,17 +1,16 @@
 -- Any two answers that the promise of a reader allows are equal.
 use Prim.Native.Nat.{ℕ, suc, ◌≤◌, ◌<◌}
-use mathlib.Core.Path.{◌≡◌, sym, ap, ◌∙◌}
+use mathlib.Core.Path.{◌≡◌, refl, sym, ap, ◌∙◌}
 use mathlib.Core.List.{List, [], append-nil}
 use native.Mathlib.Omega.{arith}
 use lib.ListN.{drop}
 use Rattle.counting.proofs.Cases.{by_le}
 use Rattle.decimal.specs.Decimal.{nought}
 use Rattle.reading.specs.inside.Piece.{Piece, Stops, Passed, Stuck}
+use Rattle.std.proofs.Common.{Result, Ok, Err}
 use Rattle.reading.specs.inside.Read.{ReadsWord, ReadsNumber}
-use Rattle.reading.specs.declared.WordRead.{WordRead}
-use Rattle.reading.specs.declared.WordRead.TheVariants as word
-use Rattle.reading.specs.declared.NumberRead.{NumberRead}
-use Rattle.reading.specs.declared.NumberRead.TheVariants as number
+use Rattle.reading.specs.declared.Cursor.{Cursor}
+use Rattle.reading.specs.declared.Number.{Number}
 use Rattle.reading.proofs.Pieces.{begins_less, Code, code_word}
 use Rattle.reading.proofs.Numbers.{code_number}
 
@@ -34,19 +33,23 @@ module _ {P : Piece} where
   passed_unique code {s} {at} {m} {n} {v} {w} a b =
       let e = code v w a.allowed b.allowed (drop m s) (drop n s) (sym a.split ∙ b.split) in (e, cc)
 
-pub word_unique : (w s : List ℕ) (at : ℕ) (a b : WordRead) → ReadsWord w s at a → ReadsWord w s at b → a ≡ b
-word_unique w s at (word.Past m) (word.Past n) p q =
-    let e = (passed_unique (code_word w) p q).1 in λ i. word.Past (record { at = e i })
-word_unique w s at (word.Past m) (word.Stuck place) p q = absurd (passed_or_stuck p q)
-word_unique w s at (word.Stuck place) (word.Past n) p q = absurd (passed_or_stuck q p)
-word_unique w s at (word.Stuck a) (word.Stuck b) p q = ap word.Stuck (stuck_unique p q)
+-- the same answer, and the cursor at the same place in the same text
+pub word_unique : (w : List ℕ) (c d e : Cursor) (a b : Result (Unit {0}) ℕ) → ReadsWord w c d a → ReadsWord w c e b →
+    (a ≡ b) × (d.text ≡ e.text) × (d.at ≡ e.at)
+word_unique w c d e (Ok _) (Ok _) p q =
+    let same = passed_unique (code_word w) p.passed q.passed in (refl, p.text ∙ sym q.text, same.1)
+word_unique w c d e (Ok _) (Err place) p q = absurd (passed_or_stuck p.passed q.stuck)
+word_unique w c d e (Err place) (Ok _) p q = absurd (passed_or_stuck q.passed p.stuck)
+word_unique w c d e (Err _) (Err _) p q =
+    (ap Err (stuck_unique p.stuck q.stuck), p.text ∙ sym q.text, p.same ∙ sym q.same)
 
-pub number_unique : (least most end other : ℕ) → end < nought → other < nought → (s : List ℕ) (at : ℕ)
-    (a b : NumberRead) → ReadsNumber least most end other s at a → ReadsNumber least most end other s at b → a ≡ b
-number_unique least most end other l m s at (number.Past v d _) (number.Past w e _) p q =
-    let h = passed_unique (code_number least most end other l m) p q in
-    λ i. number.Past (h.0 i).0 (h.0 i).1 (record { at = h.1 i })
-number_unique least most end other l m s at (number.Past v d _) (number.Stuck _) p q = absurd (passed_or_stuck p q)
-number_unique least most end other l m s at (number.Stuck _) (number.Past w e _) p q = absurd (passed_or_stuck q p)
-number_unique least most end other l m s at (number.Stuck _) (number.Stuck _) p q =
-    ap number.Stuck (stuck_unique p q)
+pub number_unique : (least most end other : ℕ) → end < nought → other < nought → (c d e : Cursor)
+    (a b : Result Number ℕ) → ReadsNumber least most end other c d a → ReadsNumber least most end other c e b →
+    (a ≡ b) × (d.text ≡ e.text) × (d.at ≡ e.at)
+number_unique least most end other l m c d e (Ok v) (Ok w) p q =
+    let same = passed_unique (code_number least most end other l m) p.passed q.passed in
+    ((λ i. Ok (record { value = (same.0 i).0; end = (same.0 i).1 })), p.text ∙ sym q.text, same.1)
+number_unique least most end other l m c d e (Ok v) (Err _) p q = absurd (passed_or_stuck p.passed q.stuck)
+number_unique least most end other l m c d e (Err _) (Ok w) p q = absurd (passed_or_stuck q.passed p.stuck)
+number_unique least most end other l m c d e (Err _) (Err _) p q =
+    (ap Err (stuck_unique p.stuck q.stuck), p.text ∙ sym q.text, p.same ∙ sym q.same)

@@ -12,27 +12,20 @@ module _ (w s : List ℕ) (i : ℕ) (same : take i s ≡ take i w) where
   begun : Begins (take i s) w
   begun = (drop i w, rw (same, take-append-drop))
 
-  -- the text ends within the word
-  pub word_ends : i ≡ length s → i < length w → Stops (word_piece w) s i
-  word_ends e h =
+  -- the text ends within the word, or goes on with another byte than the word
+  pub word_stops : i ≤ length s → i < length w → (i < length s → get_or s i 0 ≡ get_or w i 0 → ⊥) →
+      Stops (word_piece w) s i
+  word_stops e h d =
       record {
-        within = omega arith;
+        within = e;
         begun = (tt, tt, begun);
-        no_more = λ l v hv y g. omega arith;
-        no_text = λ v hv y g. omega (arith, simp length-append at (ap length g));
-      }
-
-  -- another byte than the word's
-  pub word_differs : i < length s → i < length w → (get_or s i 0 ≡ get_or w i 0 → ⊥) → Stops (word_piece w) s i
-  word_differs l h d =
-      record {
-        within = omega arith;
-        begun = (tt, tt, begun);
-        no_more = λ _ v hv y g.
+        no_more = λ l v hv y g.
             let long : i < length (take (suc i) s) = omega (arith, length-take-le (suc i) s l) in
             let next : i < suc i = omega arith in
-            d (simp (get_or-append, get_or-take) at (ap (λ (k : List ℕ). get_or k i 0) g.1));
-        no_text = λ v hv y g. d (rw get_or-append at (ap (λ (k : List ℕ). get_or k i 0) g));
+            d l (simp (get_or-append, get_or-take) at (ap (λ (k : List ℕ). get_or k i 0) g.1));
+        no_text = λ v hv y g.
+            d (omega (arith, simp length-append at (ap length g)))
+            (rw get_or-append at (ap (λ (k : List ℕ). get_or k i 0) g));
       }
 
 -- the whole word

@@ -1,6 +1,6 @@
 -- The laws of the crate `responses`.
 pub mod Stored
-pub mod Walk
+pub mod Pairs
 pub mod Plans
 pub mod Jobs
 pub mod Largest

@@ -68,9 +68,10 @@ fn above_of(plan: &[u32], rank: u32) -> u32
     requires { plan_rows plan.now ≤ most_rows }
     ensures { Above (plan_of plan.now) (plan_rows plan.now) rank result }
 {
+    let (rows, _) = plan.as_chunks::<PLAN_WIDTH>();
     let mut set: u32 = 0;
-    for (i, row) in plan.chunks_exact(PLAN_WIDTH).enumerate() {
-        if row[0] < rank {
+    for (i, &[other, _]) in rows.iter().enumerate() {
+        if other < rank {
             set = marks::more(set, i as u32);
         }
     }
@@ -82,9 +83,10 @@ fn blocks_of(tasks: &Tasks, plan: &[u32]) -> [u32; MOST_ROWS]
     requires { length plan.now ≡ plan_width * tasks.now.n }
     ensures { Blocks (table_in tasks.now.rows tasks.now.n) (plan_of plan.now) result }
 {
+    let (rows, _) = plan.as_chunks::<PLAN_WIDTH>();
     let mut blocks = [0u32; MOST_ROWS];
-    for (i, row) in plan.chunks_exact(PLAN_WIDTH).enumerate() {
-        blocks[i] = tables::longer(tasks.rows[i], row[1]);
+    for (i, &[_, len]) in rows.iter().enumerate() {
+        blocks[i] = tables::longer(tasks.rows[i], len);
     }
     blocks
 }
@@ -94,9 +96,10 @@ fn blocking_of(plan: &[u32], blocks: &[u32; MOST_ROWS], rank: u32) -> u32
     requires { plan_rows plan.now ≤ most_rows }
     ensures { Blocking (plan_of plan.now) (plan_rows plan.now) blocks.now rank result }
 {
+    let (rows, _) = plan.as_chunks::<PLAN_WIDTH>();
     let mut longest: u32 = 0;
-    for (i, row) in plan.chunks_exact(PLAN_WIDTH).enumerate() {
-        if rank < row[0] {
+    for (i, &[other, _]) in rows.iter().enumerate() {
+        if rank < other {
             longest = longest.max(blocks[i]);
         }
     }
@@ -109,16 +112,16 @@ pub fn responses(tasks: &Tasks, asks: &[Ask], plan: &[u32]) -> [u32; MOST_ROWS]
         × Asks (table_in tasks.now.rows tasks.now.n) asks.now }
     ensures { Responses (table_in tasks.now.rows tasks.now.n) (plan_of plan.now) result }
 {
+    let (rows, _) = plan.as_chunks::<PLAN_WIDTH>();
     let blocks = blocks_of(tasks, plan);
     let mut times = [0u32; MOST_ROWS];
     let mut level = [Ask::NOTHING; MOST_ROWS];
-    for (i, row) in plan.chunks_exact(PLAN_WIDTH).enumerate() {
-        let rank = row[0];
+    for (i, &[rank, len]) in rows.iter().enumerate() {
         let placed = Placed {
             i,
             above: above_of(plan, rank),
             blocking: blocking_of(plan, &blocks, rank),
-            len: row[1],
+            len,
         };
         times[i] = response(tasks, asks, &mut level, placed);
     }

@@ -1,9 +1,8 @@
 -- What is known while the ranks are filled, with the rows of a set not placed: it holds at the start, goes on with each
 -- row that takes its rank, and tells how the filling ends.
 use Prim.Native.Nat.{ℕ, suc, ◌+◌, ◌-◌, ◌*◌, max, ◌≤◌, ◌<◌}
-use mathlib.Core.Path.{◌≡◌, refl, sym, ap, ◌∙◌, subst}
+use mathlib.Core.Path.{◌≡◌, sym, ap, ◌∙◌, subst}
 use mathlib.Core.Bool.{true, false}
-use mathlib.Core.Logic.{inl, inr}
 use mathlib.Core.List.{List}
 use native.Mathlib.Omega.{arith}
 use lib.ListN.{length, get_or, set, length-set, replicate, length-replicate}
@@ -19,13 +18,12 @@ use Rattle.tables.specs.Plan.{Plan, plan_of, plan_width, cap, longer}
 use Rattle.test.specs.Test.{before, load, busy_side, Response, longest, blocking}
 use Rattle.test.proofs.Load.{Positive}
 use Rattle.test.proofs.Plans.{room, blocking_is, longest_cases}
-use Rattle.sides.specs.inside.Level.{put}
-use Rattle.sides.proofs.Pairs.{zeros, put_length, put_other, put_first, put_second}
+use Rattle.search.proofs.Pairs.{put, zeros, put_length, put_other, put_first, put_second}
 use Rattle.choice.specs.Choice.{unplaced, Takes, TakesRank, NoneFits, Filled}
 use Rattle.choice.proofs.Level.{Alike, takes_alike, none_alike}
 use Rattle.choice.proofs.Filled.{agree_alike}
 use Rattle.choice.proofs.Placed.{Placed, filled_none, placed_agree, filled_placed, blocking_placed}
-use Rattle.search.specs.inside.Ended.{Ended}
+use Rattle.search.specs.inside.Ended.{FilledAll, StoppedAt}
 use Rattle.search.proofs.Timed.{Timed, response_alike, timed_at, timed_response}
 
 -- the rank being filled
@@ -97,11 +95,9 @@ module _ (tb : Table) where
         ) in
         omega (arith, g.blocks, room tb p (rank rest) (marked rest) pos out t h)
 
-    pub going_stops : {r : ℕ} → r ≡ rank rest → 1 ≤ rank rest → NoneFits tb (marked rest) b (marked rest) →
-        Ended tb (record { stopped = r; plan = replicate (plan_width * most_rows) 0; times = replicate most_rows 0 })
+    pub going_stops : {r : ℕ} → r ≡ rank rest → 1 ≤ rank rest → NoneFits tb (marked rest) b (marked rest) → StoppedAt tb r
     going_stops e some none =
-        inr
-        (record {
+        record {
           stop =
               record {
                 plan = p;
@@ -112,16 +108,12 @@ module _ (tb : Table) where
                 none = none_alike tb _ _ _ _ pos level_alike none;
               };
           said = e;
-          plan = refl;
-          times = refl;
-        })
+        }
 
-    pub going_ends : rest ≡ 0 → Ended tb (record { stopped = 0; plan = plan; times = times })
+    pub going_ends : rest ≡ 0 → FilledAll tb (record { plan = plan; times = times })
     going_ends e =
         let chosen = subst (Filled tb p) (ap rank e ∙ count_nothing most_rows) g.filled in
-        inl
-        (record {
-          said = refl;
+        record {
           chosen = chosen;
           responses =
               record {
@@ -131,7 +123,7 @@ module _ (tb : Table) where
               };
           past = g.plan_past;
           whole = g.long;
-        })
+        }
 
     -- row y takes the rank with length q, and its response is R
     module _ {y q R left : ℕ} (row : y < most_rows) (t : Takes tb (marked rest) b (marked rest) y q)

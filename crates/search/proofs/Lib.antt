@@ -1,7 +1,9 @@
 -- The laws of the crate `search`.
+pub mod Pairs
 pub mod Period
-pub mod Trial
+pub mod Turn
 pub mod Lengths
+pub mod Trial
 pub mod Seen
 pub mod Timed
 pub mod Runs

@@ -6,18 +6,27 @@ use mathlib.Core.List.{List}
 use native.Mathlib.Omega.{arith}
 use native.Mathlib.Nat.{div-eq_of_lt}
 use borrow.Author.Tests.{lt-ltb}
+use lib.ListN.{get_or}
+use Rattle.std.proofs.lemmas.List.{get_or_default}
 use Rattle.marks.specs.inside.Marks.{marked, Whole, Less}
 use Rattle.tables.specs.Table.{Table, Sound}
 use Rattle.test.specs.Test.{upto, load, every_row}
 use Rattle.test.proofs.Load.{Positive, load_ext, load_without}
-use Rattle.sides.specs.inside.Asks.{Asks}
+use Rattle.sides.specs.inside.Asks.{nothing, Asks}
+use Rattle.sides.specs.declared.ask.Ask.{Ask}
 use Rattle.sides.specs.inside.Level.{runs_of}
 use Rattle.sides.proofs.Asking.{runs_all}
 
-pub runs_first : {tb : Table} {asks : List ℕ} (rest : ℕ) → Sound tb → Asks tb asks → Whole tb.n rest →
+pub runs_first : {tb : Table} {asks : List Ask} (rest : ℕ) → Sound tb → Asks tb asks → Whole tb.n rest →
     runs_of asks ≡ load upto tb (marked rest) 0
 runs_first {tb} rest sound a w =
     runs_all sound a ∙ load_ext tb upto every_row (marked rest) (λ j l. sym (w j ∙ lt-ltb j tb.n l)) 0
+
+-- the run that is read at a row's place is that of the row
+pub read_run : {tb : Table} {asks : List Ask} {y : ℕ} (default : Ask) → Asks tb asks → y < tb.n →
+    (get_or asks y default).run ≡ tb.C y
+read_run {tb} {asks} {y} default w l =
+    ap (λ x. x.run) (get_or_default asks y default nothing (omega (arith, w.long))) ∙ w.runs y l
 
 -- row y is placed
 module _ {tb : Table} (pos : Positive tb) (rest : ℕ) {y runs : ℕ} (r : runs ≡ load upto tb (marked rest) 0)

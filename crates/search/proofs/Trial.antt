@@ -1,18 +1,27 @@
 -- Laws of one length's trial, job by job: where it is left, the length passes, with its response, or it does not.
 use Prim.Native.Nat.{ℕ, suc, ◌+◌, ◌-◌, ◌*◌, max, ◌≤◌, ◌<◌}
-use mathlib.Core.Path.{◌≡◌, refl, ap, subst}
+use mathlib.Core.Path.{◌≡◌, refl, sym, ap, ◌∙◌, subst}
 use mathlib.Core.Bool.{Bool}
+use mathlib.Core.List.{List}
 use native.Mathlib.Omega.{arith}
+use Rattle.std.specs.Prelude.{Some, None}
+use native.Mathlib.Nat.{suc-mul}
 use native.Mathlib.Numerals.{add-one}
+use lib.ListN.{take}
 use Rattle.counting.proofs.Cases.{by_eq}
+use Rattle.counting.proofs.Up.{up_le, lt_up}
 use Rattle.counting.proofs.Least.{Climbing, climbing_below, climbing_step, climbing_stops, least_unique}
 use Rattle.tables.specs.Table.{Table}
-use Rattle.test.specs.Test.{upto, jobs, Start, active_side, start_side, Response}
+use Rattle.test.specs.Test.{horizon, upto, jobs, Start, active_side, start_side}
 use Rattle.test.proofs.Sides.{start_side_mono}
-use Rattle.test.proofs.Starts.{jobs_some}
-use Rattle.responses.proofs.Jobs.{Working, job_base, job_exists, job_known, next_low}
+use Rattle.test.proofs.Starts.{jobs_some, released_within}
+use Rattle.sides.specs.declared.ask.Ask.{Ask}
+use Rattle.sides.specs.inside.Level.{start_of}
+use Rattle.sides.proofs.Level.{start_of_is}
+use Rattle.responses.proofs.Jobs.{Working, jobs_few, job_base, job_exists, job_known, next_low}
 use Rattle.responses.proofs.Largest.{Passed, passed_none, passed_more, passed_all}
-use Rattle.choice.specs.Choice.{Fits}
+use Rattle.search.proofs.Turn.{Hand, Above}
+use Rattle.search.proofs.Lengths.{Tested}
 
 -- job k of row i is due at (k - 1) T + D
 abbrev pub due : Table → ℕ → ℕ → ℕ
@@ -55,6 +64,40 @@ module _ {tb : Table} {P : ℕ → Bool} {b i q L : ℕ} (w : Working tb P b i q
         let x = job_exists w k t.low t.high in
         omega (arith, t.climbing.under x.0 (omega arith) x.1.holds)
 
+    -- the jobs are no more than ticks, and each is released within the horizon
+    pub trial_few : k ≤ horizon
+    trial_few = omega (arith, t.high, jobs_few w)
+
+    pub trial_released : (k - 1) * tb.T i ≤ horizon
+    trial_released =
+        let from = released_within tb P b i w.positive w.row L (k - 1) (omega (arith, t.low, t.high)) in
+        omega (arith, from, w.within)
+
+    -- the next release, which is in the active period unless the job is the last one
+    next_release : (k - 1) * tb.T i + tb.T i ≡ k * tb.T i
+    next_release =
+        let z : suc (k - 1) ≡ k = omega (arith, t.low) in
+        sym (suc-mul (k - 1) (tb.T i)) ∙ ap (λ x. x * tb.T i) z
+
+    pub trial_last : L ≤ (k - 1) * tb.T i + tb.T i → k ≡ jobs tb P b i L
+    trial_last h =
+        let e = next_release in
+        omega (arith, t.high, up_le L k (w.positive.T i w.row) (omega arith))
+
+    pub trial_more : (k - 1) * tb.T i + tb.T i < L → k < jobs tb P b i L
+    trial_more h = let e = next_release in lt_up L k (w.positive.T i w.row) (omega arith)
+
+    -- the level of the rows above asks for what the start's right side does
+    pub trial_side : {first bound base m : ℕ} {level : List Ask} → Hand tb P b i first L bound →
+        Above tb P bound level m → base ≡ first + (k - 1) * tb.C i - q →
+        start_of (take m level) base s ≡ side k s
+    trial_side {first} {bound} {base} h a e =
+        let z : suc (k - 1) ≡ k = omega (arith, t.low) in
+        let based : base ≡ active_side tb P b i 1 + (k - 1) * tb.C i - q = omega (arith, e, h.first_is) in
+        start_of_is a.asking w.positive b i q (k - 1) w.row w.most based s
+        (omega (arith, trial_within, w.some, h.in_bound))
+        ∙ ap (λ n. start_side tb P b i upto q n s) z
+
     pub trial_again : Trial tb P b i q L k (side k s) R
     trial_again =
         record {
@@ -66,7 +109,7 @@ module _ {tb : Table} {P : ℕ → Bool} {b i q L : ℕ} (w : Working tb P b i q
         }
 
     -- a lower bound of a start that is too late is a miss: the length does not pass
-    pub trial_misses : due tb i k < s + q → ¬ Fits tb P b i q
+    pub trial_misses : due tb i k < s + q → Tested tb P b i q None
     trial_misses h x =
         let st = job_exists w k t.low t.high in
         let r = x.response in
@@ -125,8 +168,7 @@ module _ {tb : Table} {P : ℕ → Bool} {b i q L : ℕ} (w : Working tb P b i q
             }
 
         -- after the last job the length passes
-        pub trial_passes : k ≡ jobs tb P b i L →
-            Fits tb P b i q × Response tb P b i q (max R (s + q - (k - 1) * tb.T i))
+        pub trial_passes : k ≡ jobs tb P b i L → Tested tb P b i q (Some (max R (s + q - (k - 1) * tb.T i)))
         trial_passes g =
             let r = passed_all w (subst (λ m. Passed tb P b i q m (max R (s + q - (k - 1) * tb.T i))) g kept) in
             let j = r.job in

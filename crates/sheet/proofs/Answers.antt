@@ -15,17 +15,16 @@ use Rattle.tables.proofs.Answered.{OnePlace, bare_one, answered_unique, result_s
 use Rattle.sheet.specs.Sheet.{Task, WellFormed, Sheet, LongestPrefix, ticks_of}
 use Rattle.sheet.specs.Answers.{sheet_form, SheetGiven, ticks_checks, TicksAnswer, SheetAnswer}
 use Rattle.sheet.specs.inside.Read.{ReadsTasks, ReadsSheet}
-use Rattle.sheet.specs.declared.SheetRead.{SheetRead}
-use Rattle.sheet.specs.declared.SheetRead.TheVariants as read
+use Rattle.std.proofs.Common.{Result as OkOrErr, Ok, Err}
 use Rattle.sheet.proofs.Fronts.{length_ticks, longest_sheet, sheet_length, sheet_once, front_whole, shared_bound}
 
 -- all tasks read, and the text ends
-pub reads_sheet : (s : List ℕ) (tick : ℕ) (before table : List ℕ) (r : SheetRead) → ReadsTasks s tick before table r →
+pub reads_sheet : (s : List ℕ) (tick : ℕ) (before table : List ℕ) (r : OkOrErr ℕ ℕ) → ReadsTasks s tick before table r →
     ReadsSheet s before table r
-reads_sheet s tick before table (read.Whole n) h =
+reads_sheet s tick before table (Ok n) h =
     let f = h.1 in
     (tick, f.tasks, front_whole s tick f.tasks (length s) f.front refl (omega arith), f.many, f.rows)
-reads_sheet s tick before table (read.Stuck place) h = h
+reads_sheet s tick before table (Err place) h = h
 
 -- the table of a well-formed sheet
 module _ (tick : ℕ) (ts : List Task) where

@@ -10,12 +10,12 @@ use borrow.Author.Tests.{leb-true, ltb-true}
 use lib.ListN.{length}
 use lib.Dec.{leb, ltb}
 use Rattle.counting.specs.Up.{up}
+use Rattle.counting.specs.Least.{Least}
 use Rattle.counting.proofs.Cases.{by_le, by_eq, and_left, and_right, or_cases}
 use Rattle.counting.proofs.Search.{all, all_at}
 use Rattle.tables.specs.Table.{Table, Within, row_width, most, most_rows, table_of}
 use Rattle.tables.specs.Refusal.{Result}
 use Rattle.tables.specs.Checks.{StartAtFault, RegionAtFault, NumberAtFault}
-use Rattle.tables.specs.inside.Checked.{FirstFault}
 use Rattle.tables.proofs.Answered.{◌past◌}
 use Rattle.tables.proofs.Checked.{range_hit, range_clear}
 use Rattle.tables.proofs.Numbers.{number_in, none_before}
@@ -103,22 +103,19 @@ module _ (tick : ℕ) (ts : List Task)
   gives : all (λ j. all (fine (table_of ticks) j) row_width) (length ts) ≡ true → OnlyGives tick ts ticks
   unfolding all
   gives sound out r room =
-      let none : FirstFault ticks (length ticks) =
-      record {
-        high = omega arith;
-        fault = λ l. absurd (omega arith);
-        least = λ j at _ f.
-            omega (
-              arith,
-              length_ticks tick ts,
-              faults (table_of ticks) (length ts) 0 (omega arith) sound refl j at f,
-            );
-      } in
+      let none : (j : ℕ) → j < (table_of ticks).n → (at : ℕ) → NumberAtFault (table_of ticks) j at → ⊥ =
+      λ j l at f.
+      omega (
+        arith,
+        length_ticks tick ts,
+        number_in (table_of ticks) j f,
+        faults (table_of ticks) (length ts) 0 (omega arith) sound refl j at f,
+      ) in
       only out r _ (inr (
         tick,
         ts,
         own,
-        range_clear ticks (length ticks) none (omega arith)
+        range_clear ticks none
             past (λ place h. omega (arith, h.1))
             past record { number = refl; place = refl; given = record { many = refl; whole = refl } },
       ))
@@ -128,19 +125,27 @@ module _ (tick : ℕ) (ts : List Task)
       OnlyRefuses tick ts (row_width * i + k)
   refuses i k l few before here fault out r =
       let long = length_ticks tick ts in
-      let first : FirstFault ticks (row_width * i + k) =
+      let at = row_width * i + k in
+      let first : Least (NumberAtFault (table_of ticks) i) 0 at =
       record {
-        high = omega arith;
-        fault = λ _. (i, omega arith, fault);
-        least = λ j at _ f. faults (table_of ticks) i k (omega arith) before here j at f;
+        low = omega arith;
+        holds = fault;
+        least = λ u _ f. faults (table_of ticks) i k (omega arith) before here i u f;
       } in
+      let none : (j : ℕ) → j < i → (u : ℕ) → NumberAtFault (table_of ticks) j u → ⊥ =
+      λ j h u f.
+      omega (
+        arith,
+        number_in (table_of ticks) j f,
+        faults (table_of ticks) i k (omega arith) before here j u f,
+      ) in
       only out r _ (inr (
         tick,
         ts,
         own,
         inl (record {
           number = refl;
-          place = range_hit ticks (row_width * i + k) first (omega arith);
+          place = range_hit ticks i at (omega (arith, long)) first none;
           value = refl;
           unwritten = refl;
         }),

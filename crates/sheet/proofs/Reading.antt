@@ -1,25 +1,21 @@
 -- Laws of reading the lines of a sheet: what could follow where a reader is stuck, and what is read behind what was
 -- read.
-use Prim.Native.Nat.{ℕ, ◌≤◌}
-use mathlib.Core.Path.{◌≡◌, refl, subst}
+use Prim.Native.Nat.{ℕ}
+use mathlib.Core.Path.{◌≡◌, refl}
 use mathlib.Core.Logic.{inl, inr, ⊎_elim}
 use mathlib.Core.Option.{Option, none, some}
-use mathlib.Core.List.{List}
 use native.Mathlib.Omega.{arith}
-use lib.ListN.{length}
-use Rattle.decimal.specs.Word.{word}
-use Rattle.reading.specs.inside.Piece.{Piece, word_piece, Passed, Stuck}
-use Rattle.reading.specs.inside.Read.{ReadsNumber}
-use Rattle.reading.specs.declared.NumberRead.{NumberRead}
-use Rattle.reading.specs.declared.NumberRead.TheVariants as number
-use Rattle.reading.proofs.Pieces.{code_word, stuck_second, passed_both, alike_stuck, alike_passed}
-use Rattle.sheet.specs.Sheet.{Region, Task, longest_tick}
-use Rattle.sheet.specs.inside.Read.{task_piece, spaced, spacing, ended, region_piece, after_deadline, after_run}
-use Rattle.sheet.specs.inside.Read.{times_piece, region_of, ReadsTick, ReadsRegion, ReadsTimes, ReadsTask}
-use Rattle.sheet.specs.declared.Times.{Times}
-use Rattle.sheet.specs.declared.LineRead.{LineRead}
-use Rattle.sheet.specs.declared.LineRead.TheVariants as line
-use Rattle.sheet.proofs.Lines.{tick_number, tick_alike, task_alike, code_spaced, code_spacing, one_time}
+use Rattle.std.proofs.Common.{Result, Err}
+use Rattle.std.specs.Result.{IsErr, IsErrAnd}
+use Rattle.std.proofs.lemmas.Result.{err_from_is_err_and}
+use Rattle.reading.specs.inside.Piece.{Piece, Stuck}
+use Rattle.reading.specs.inside.Read.{Past}
+use Rattle.reading.specs.declared.Cursor.{Cursor}
+use Rattle.reading.proofs.Cursors.{past_both, past_stuck}
+use Rattle.sheet.specs.Sheet.{Region}
+use Rattle.sheet.specs.inside.Read.{spaced, spacing, ended, region_piece, after_deadline, after_run}
+use Rattle.sheet.specs.inside.Read.{times_piece}
+use Rattle.sheet.proofs.Lines.{tick_number, code_spaced, one_time}
 
 -- something that the piece allows, and so could follow
 abbrev pub Some : Piece → Type 0
@@ -48,44 +44,22 @@ pub some_times : Some times_piece
 some_times = (((1, 32), some_deadline.0), ((one_time, inl refl), some_deadline.1))
 
 -- no region behind a line feed
-pub no_region : (s : List ℕ) (m end : ℕ) → end ≡ 10 → m ≤ length s → Passed (region_piece end) s m none m
-no_region s m end e within = record { allowed = e; within = within; behind = omega arith; split = refl }
+pub no_region : (c : Cursor) (end : ℕ) → end ≡ 10 → Past (region_piece end) c c none
+no_region c end e =
+    record { text = refl; passed = record { allowed = e; within = c.within; behind = omega arith; split = refl } }
 
 -- run and deadline read, and what is read behind them
-module _ {s : List ℕ} {at m n c d e f : ℕ} (run : Passed (spaced 1) s at (c, e) m)
-    (deadline : Passed (spaced 1) s m (d, f) n) where
-  pub times_stuck : {place : ℕ} → Stuck after_deadline s n place → Stuck times_piece s at place
+module _ {c d e : Cursor} {run deadline : ℕ × ℕ} (p : Past (spaced 1) c d run) (q : Past (spaced 1) d e deadline) where
+  pub times_stuck : {place : ℕ} → Stuck after_deadline e.text.now e.at place → Stuck times_piece c.text.now c.at place
   times_stuck h =
-      stuck_second (spaced 1) (λ _. after_run) (code_spaced 1) run
-      (stuck_second (spaced 1) (λ _. after_deadline) (code_spaced 1) deadline h)
+      past_stuck (λ _. after_run) p (code_spaced 1) (past_stuck (λ _. after_deadline) q (code_spaced 1) h)
 
-  pub times_passed : {t end l k : ℕ} {r : Option Region} → Passed spacing s n (t, end) l →
-      Passed (region_piece end) s l r k → Passed times_piece s at ((c, e), ((d, f), ((t, end), r))) k
-  times_passed h g =
-      passed_both (spaced 1) (λ _. after_run) run
-      (passed_both (spaced 1) (λ _. after_deadline) deadline (passed_both spacing (λ t. region_piece t.1) h g))
+  pub times_past : {f g : Cursor} {last : ℕ × ℕ} {r : Option Region} → Past spacing e f last →
+      Past (region_piece last.1) f g r → Past times_piece c g (run, (deadline, (last, r)))
+  times_past h k =
+      past_both (λ _. after_run) p (past_both (λ _. after_deadline) q (past_both (λ t. region_piece t.1) h k))
 
-  pub reads_times : (known : Times) → known.c ≡ c → known.d ≡ d → {end l : ℕ} → Passed spacing s n (known.t, end) l →
-      end ≡ 32 → (r : LineRead) → ReadsRegion known s l r → ReadsTimes s at r
-  reads_times known p q {end} {l} h space (line.Past t next) g = (
-    ((c, e), ((d, f), ((known.t, end), region_of t.start t.length))),
-    cc,
-    times_passed h (rw space g.3),
-  )
-  reads_times known p q {end} {l} h space (line.Stuck place) g =
-      times_stuck (stuck_second spacing (λ t. region_piece t.1) code_spacing h (rw space g))
-
--- a word read, and what is read behind it
-pub reads_tick : (s : List ℕ) (m : ℕ) (r : NumberRead) → Passed (word_piece (word "tick ")) s 0 tt m →
-    ReadsNumber 1 longest_tick 10 10 s m r → ReadsTick s r
-reads_tick s m (number.Past tick e next) f h = alike_passed tick_alike (passed_both _ (λ _. tick_number) f h)
-reads_tick s m (number.Stuck place) f h =
-    alike_stuck tick_alike (stuck_second _ (λ _. tick_number) (code_word (word "tick ")) f h)
-
-pub reads_task : (s : List ℕ) (at m : ℕ) (r : LineRead) → Passed (word_piece (word "task ")) s at tt m →
-    ReadsTimes s m r → ReadsTask s at r
-reads_task s at m (line.Past t next) f h =
-    subst (λ (u : Task). Passed task_piece s at u next.at) h.1
-    (alike_passed task_alike (passed_both _ (λ _. times_piece) f h.2))
-reads_task s at m (line.Stuck place) f h =
-    alike_stuck task_alike (stuck_second _ (λ _. times_piece) (code_word (word "task ")) f h)
+-- what a `?` hands on is the place at which the reader was stuck
+pub hands_on : {T : Type 0} (Q : Result T ℕ → Type 0) {r : Result T ℕ} {place : ℕ} →
+    IsErr r × IsErrAnd r (λ y. y ≡ place) → Q (Err place) → Q r
+hands_on Q {r} h q = let p = err_from_is_err_and r h.1 in rw (p.1, p.2) q

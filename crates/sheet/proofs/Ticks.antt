@@ -1,48 +1,27 @@
 -- Laws of a row in ticks: it fits its numbers, how it is put into the table, and where it stands there.
 use Prim.Native.Nat.{ℕ, zero, suc, ◌+◌, ◌*◌, ◌-◌, ◌/◌, ◌≤◌, ◌<◌}
-use mathlib.Core.Path.{◌≡◌, refl, ap, ◌∙◌}
-use mathlib.Core.Option.{none, some, some-injective, none-ne-some}
+use mathlib.Core.Path.{◌≡◌, ap, ◌∙◌}
+use mathlib.Core.Option.{some, some-injective, none-ne-some}
 use mathlib.Core.List.{List, [], ◌∷◌, ◌++◌, append_assoc, append-nil}
 use native.Mathlib.Omega.{arith}
-use native.Mathlib.Nat.{zero-add, mul-le-mul_left, div-le_self}
+use native.Mathlib.Nat.{zero-add, mul-le-mul_left}
 use lib.ListN.{length, get_or, drop, get_elem?, drop_of_length-le, get_or-append}
 use lib.Seq.{sets, sets-eq, take_at, drop_at, drop-drop, get_or-append-add}
 use borrow.Rule.Slice.PartMut.{put_mid}
 use Rattle.counting.specs.Up.{up}
 use Rattle.counting.proofs.Up.{div_mono, up_le}
 use Rattle.tables.specs.Table.{row_width}
-use Rattle.sheet.specs.Sheet.{Task, longest_time, RegionWithin, row_of, ticks_of}
-use Rattle.sheet.specs.inside.Read.{region_of}
+use Rattle.sheet.specs.Sheet.{Task, row_of, ticks_of}
 use Rattle.sheet.proofs.Fronts.{ticks_more, length_ticks}
 
 -- ticks are no more than microseconds
 pub up_small : (x d : ℕ) → 1 ≤ d → up x d ≤ x
 up_small x d h = up_le x x h (omega (arith, mul-le-mul_left x h))
 
--- a time divided, whatever by, has 32 bits
-pub quotient_fits : (x d : ℕ) → x ≤ longest_time → x / d < 4294967296
-quotient_fits x d h = omega (arith, div-le_self x d)
-
 -- a region's start rounded down is no later than its end rounded up
 pub start_end : (x y d : ℕ) → x / d ≤ up (x + y) d
 unfolding up
 start_end x y d = div_mono d (omega arith)
-
--- the two numbers of a region
-pub region_small : (s l : ℕ) → RegionWithin (region_of s l) → (s ≤ longest_time) × (l ≤ longest_time)
-region_small zero zero h = (omega arith, omega arith)
-region_small zero (suc l) h = (h.0.high, h.1.high)
-region_small (suc s) l h = (h.0.high, h.1.high)
-
-pub region_none : (s l : ℕ) → RegionWithin (region_of s l) → l ≡ 0 → none ≡ region_of s l
-region_none zero zero h e = refl
-region_none zero (suc l) h e = absurd (omega arith)
-region_none (suc s) l h e = absurd (omega (arith, h.1.low))
-
-pub region_some : (s l : ℕ) → 1 ≤ l → some (record { start = s; length = l }) ≡ region_of s l
-region_some zero zero h = absurd (omega arith)
-region_some zero (suc l) h = refl
-region_some (suc s) l h = refl
 
 -- as many stores as a list has numbers fill it
 pub filled : (numbers l : List ℕ) → length l ≡ length numbers → sets l 0 numbers ≡ numbers

@@ -1,7 +1,6 @@
 -- The laws of the crate `sides`.
 pub mod Inverse
 pub mod Again
-pub mod Pairs
 pub mod Rows
 pub mod Asks
 pub mod Climb

@@ -6,13 +6,13 @@ use mathlib.Core.List.{List}
 use native.Mathlib.Omega.{arith}
 use native.Mathlib.Nat.{zero-add}
 use native.Mathlib.Numerals.{add-one}
-use lib.Dec.{eqb}
+use lib.Dec.{eqb, ltb}
 use lib.ListN.{length, set, length-set}
 use lib.Seq.{get_or-set_same, get_or-set_other}
-use borrow.Author.Tests.{ne_eqb}
+use borrow.Author.Tests.{ne_eqb, lt-ltb}
 use Rattle.counting.specs.Sum.{given, sum, count, without}
 use Rattle.counting.proofs.Cases.{by_bool, by_eq}
-use Rattle.counting.proofs.Sum.{count_all, count_le, count_none, count_without, sum_delta, sum_ext, sum_without}
+use Rattle.counting.proofs.Sum.{count_all, count_le, count_none, count_without, sum_delta, sum_ext, sum_front, sum_without}
 use Rattle.counting.proofs.Sum.{without_elim}
 use Rattle.marks.specs.inside.Marks.{marked, Next, Less}
 use Rattle.marks.proofs.Marks.{sum_none_marked}
@@ -148,6 +148,21 @@ module _ (asks : List Ask) (all : ℕ) (few : length asks ≤ most_rows) where
               );
           rest = w.behind;
         }
+
+-- as many rows are packed as the set has
+pub packed_size : {asks : List Ask} {before level : List Ask} {m : ℕ} (all : ℕ) → Packed asks (marked all) before level m →
+    length asks ≤ most_rows → ((j : ℕ) → marked all j ≡ true → j < length asks) → count (marked all) most_rows ≡ m
+unfolding count
+packed_size {asks} {before} {level} {m} all x few inside =
+    let n = length asks in
+    sum_ext (λ j. given (marked all j) 1) (λ j. given (ltb j n) (given (marked all j) 1)) most_rows
+    (λ j _.
+    by_bool (marked all j)
+    (λ e. rw (e, lt-ltb j n (inside j e)))
+    (λ e. rw e (by_bool (ltb j n) (λ o. rw o) (λ o. rw o))))
+    ∙ sum_front (λ j. given (marked all j) 1) n most_rows few
+    ∙ sym (x.same one)
+    ∙ over_one level m
 
 -- what stands at place p of a sum by places
 at_place : (h : ℕ → ℕ) (p m : ℕ) → p < m → sum (λ q. given (eqb p q) (h q)) m ≡ h p

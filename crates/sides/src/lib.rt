@@ -33,15 +33,10 @@ pub fn level_of(asks: &[Ask], set: u32, level: &mut [Ask]) -> usize
         × (length level.old ≡ most_rows) }
     ensures { Packed asks.now (marked set) level.old level.new result }
 {
-    let mut m: usize = 0;
-    let mut rest = set;
-    while rest != 0 {
-        let j = marks::next(rest);
+    for (m, j) in marks::rows(set).enumerate() {
         level[m] = asks[j as usize];
-        rest = marks::others(rest);
-        m += 1;
     }
-    m
+    marks::size(set) as usize
 }
 
 // The rows that are released again before t, where they are released at 0.

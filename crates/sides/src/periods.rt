@@ -29,7 +29,7 @@ pub fn busy_period(level: &[Ask]) -> Option<u64>
     }
 }
 
-// The least fixed point of a right side, climbed to from below.
+// The least fixed point of the right side that a closure computes, climbed to from below.
 pub fn climb<F: Fn(u32) -> u32>(side: F, low: u32) -> u32
     requires { (right : ℕ → ℕ) × (lo : ℕ) × Climbs (F.pre side) (F.post side) right lo low }
     ensures { (right : ℕ → ℕ) (lo : ℕ) → Climbs (F.pre side) (F.post side) right lo low → Fixed right lo result }

@@ -1,16 +1,19 @@
 -- What `times` and `verdict` give, once the checks are clear, from what the responses say.
 use Prim.Native.Nat.{ℕ, ◌*◌, ◌<◌}
-use mathlib.Core.Path.{refl, sym, subst}
+use mathlib.Core.Path.{◌≡◌, refl, sym, subst}
+use mathlib.Core.Bool.{Bool, true, false}
 use mathlib.Core.Logic.{inl, inr}
 use mathlib.Core.List.{List, []}
 use native.Mathlib.Omega.{arith}
 use lib.ListN.{get_or}
+use Rattle.std.specs.Int.{from_bool}
 use Rattle.tables.specs.Table.{Table, Sound}
 use Rattle.tables.specs.Plan.{Plan, plan_of}
 use Rattle.tables.specs.Refusal.{Clear, Granted}
 use Rattle.tables.specs.Checks.{plan_form}
 use Rattle.tables.specs.Answer.{result_of}
-use Rattle.tables.specs.declared.Answer.TheVariants.{Given}
+use Rattle.tables.specs.inside.Checked.{Says}
+use Rattle.std.proofs.Common.{Ok}
 use Rattle.test.specs.Test.{BusyWithin, Passes, ResponseOf}
 use Rattle.test.specs.Answers.{TimesGiven, VerdictGiven, times_width, time_in}
 use Rattle.responses.specs.inside.Asked.{Planned, Responses}
@@ -27,7 +30,7 @@ planned {tb} {ps} sound form busy =
 
 pub times_given : {tb : Table} {ps out rs after : List ℕ} → Planned tb ps → Responses tb (plan_of ps) rs →
     Written rs tb.n out after → Granted (TimesGiven tb (plan_of ps) out)
-    (result_of (Given (times_width * tb.n)) after)
+    (result_of (Ok (times_width * tb.n)) after)
 times_given {tb} {ps} {out} {rs} {after} p rights w = record { number = refl; place = refl; given = given }
   where
     here : (i : ℕ) → i < tb.n → ResponseOf tb (plan_of ps) i (time_in after i)
@@ -44,13 +47,13 @@ times_given {tb} {ps} {out} {rs} {after} p rights w = record { number = refl; pl
         }
 
 module _ {tb : Table} {p : Plan} {rs : List ℕ} (rights : Responses tb p rs) where
-  pub verdict_yes : InTime tb rs → Granted (VerdictGiven tb p) (result_of (Given 1) [])
+  pub verdict_yes : InTime tb rs → Granted (VerdictGiven tb p) (result_of (Ok 1) [])
   verdict_yes all = record { number = refl; place = refl; given = record { said = inl (refl, pass); unlent = refl } }
     where
       pass : Passes tb p
       pass i l = record { R = get_or rs i 0; response = rights.each i l; within = all i l }
 
-  pub verdict_no : (InTime tb rs → ⊥) → Granted (VerdictGiven tb p) (result_of (Given 0) [])
+  pub verdict_no : (InTime tb rs → ⊥) → Granted (VerdictGiven tb p) (result_of (Ok 0) [])
   verdict_no some =
       record { number = refl; place = refl; given = record { said = inr (refl, λ x. some (late x)); unlent = refl } }
     where
@@ -58,3 +61,9 @@ module _ {tb : Table} {p : Plan} {rs : List ℕ} (rights : Responses tb p rs) wh
       late pass i l =
           let x = pass i l in
           omega (arith, x.within, response_unique tb _ _ i _ (get_or rs i 0) x.R (rights.each i l) x.response)
+
+  -- the value is 1 for yes and 0 for no
+  pub verdict_given : (v : ℕ) (b : Bool) → v ≡ from_bool b → Says b (InTime tb rs) →
+      Granted (VerdictGiven tb p) (result_of (Ok v) [])
+  verdict_given v true e all = rw e (verdict_yes all)
+  verdict_given v false e some = rw e (verdict_no some)

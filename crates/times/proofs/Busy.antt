@@ -1,26 +1,16 @@
--- The check 4 as an answer: what the busy period says of it.
+-- The check 4: what its answer says of the table.
 use Prim.Native.Nat.{ℕ}
-use mathlib.Core.Path.{◌≡◌, refl, subst}
-use mathlib.Core.Logic.{◌⊎◌, inl}
 use mathlib.Core.List.{List}
 use Rattle.tables.specs.Table.{Table}
-use Rattle.tables.specs.Refusal.{Clear, bare, Refused}
-use Rattle.tables.specs.Answer.{result_of}
-use Rattle.tables.specs.declared.Answer.TheVariants.{NoBusy}
-use Rattle.tables.proofs.Result.{refuse}
+use Rattle.tables.specs.Refusal.{Clear}
 use Rattle.test.specs.Test.{BusyWithin}
 use Rattle.test.specs.Answers.{no_busy}
-use Rattle.sides.specs.inside.Found.{BusyFound}
-use Rattle.sides.specs.declared.periods.Busy.{Busy}
-use Rattle.sides.specs.declared.periods.Busy.TheVariants.{At, Beyond}
-
-module _ (tb : Table) {k : Busy} (w : BusyFound tb k) where
-  pub busy_refuses : {X : Type 0} (out : List ℕ) → k ≡ Beyond →
-      Refused bare (no_busy tb) out (result_of NoBusy out) ⊎ X
-  busy_refuses out e = inl (refuse (no_busy tb) out NoBusy refl (refl, subst (BusyFound tb) e w) refl)
-
-  pub busy_within : {t : ℕ} → k ≡ At t → BusyWithin tb
-  busy_within {t} e = let f = subst (BusyFound tb) e w in record { period = t; busy = f.0; within = f.1 }
+use Rattle.sides.specs.declared.ask.Ask.{Ask}
+use Rattle.times.specs.inside.Given.{Asked}
 
 pub busy_clear : {tb : Table} → BusyWithin tb → Clear (no_busy tb)
 busy_clear busy place h = h.1 busy
+
+-- a table whose period is found has one
+pub asked_busy : {tb : Table} {asks : List Ask} {period : ℕ} → Asked tb asks period → BusyWithin tb
+asked_busy {tb} {asks} {period} a = record { period = period; busy = a.busy; within = a.within }

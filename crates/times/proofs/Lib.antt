@@ -1,5 +1,4 @@
 -- The laws of the crate `times`.
 pub mod Busy
-pub mod Written
 pub mod Answers
 pub mod Unique

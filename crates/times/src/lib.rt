@@ -2,114 +2,65 @@
 #![tactic(auto)]
 
 ghost use Rattle.std.specs.Prelude.{[], ◌*◌, ◌≤◌, length};
-ghost use Rattle.tables.specs.Table.{most_rows, table_of};
-ghost use Rattle.tables.specs.inside.Rows.{table_in, SoundSlice};
-ghost use Rattle.tables.specs.Answer.{result_of};
+ghost use Rattle.tables.specs.Table.{most_rows};
+ghost use Rattle.tables.specs.Refusal.{Clear};
+ghost use Rattle.tables.specs.Checks.{plan_form};
+ghost use Rattle.tables.specs.inside.Rows.{table_in};
 ghost use Rattle.tables.specs.inside.Checked.{Says};
+ghost use Rattle.tables.specs.Answer.{result_of};
 ghost use Rattle.test.specs.Answers.{TimesAnswer, VerdictAnswer, times_width};
-ghost use Rattle.times.specs.inside.Given.{Written, InTime, TimesRest, VerdictRest};
+ghost use Rattle.times.specs.inside.Given.{Timed, Written, InTime};
 
-use sides::ASK_WIDTH;
-use sides::periods::Busy;
-use tables::{Answer, PlanCheck, ROW_WIDTH, Row, TIMES_WIDTH, TableCheck};
+mod busy_check;
+
+pub use busy_check::check_busy;
+use tables::{Answer, MOST_ROWS, Refusal, TIMES_WIDTH, Tasks};
+
+// The check 4, and then the response of each row of a plan that is well formed.
+fn responses_of(tasks: &Tasks, plan: &[u32]) -> Result<[u32; MOST_ROWS], Refusal>
+    requires { Clear (plan_form (table_in tasks.now.rows tasks.now.n) plan.now) }
+    ensures { Timed (table_in tasks.now.rows tasks.now.n) plan.now result }
+{
+    let (asks, _) = check_busy(tasks)?;
+    Ok(responses::responses(tasks, &asks[..tasks.n], plan))
+}
 
 // The first n of the times into the front of the output, row by row.
-fn write(times: [u32; 32], n: usize, out: &mut [u32])
+fn write(times: [u32; MOST_ROWS], n: usize, out: &mut [u32])
     requires { (n ≤ most_rows) × (times_width * n ≤ length out.old) }
     ensures { Written times n out.old out.new }
 {
-    let mut i: usize = 0;
-    while i < n {
-        out[TIMES_WIDTH * i] = times[i];
-        i += 1;
-    }
+    out[..TIMES_WIDTH * n].copy_from_slice(&times[..n]);
 }
 
-// Whether each of the first n times is at most its row's deadline.
-fn in_time(rows: [Row; 32], n: usize, times: [u32; 32]) -> bool
-    requires { n ≤ most_rows }
-    ensures { Says result (InTime (table_in rows n) times) }
+// Whether each row's time is at most its deadline.
+fn in_time(tasks: &Tasks, times: [u32; MOST_ROWS]) -> bool
+    ensures { Says result (InTime (table_in tasks.now.rows tasks.now.n) times) }
 {
-    let mut i: usize = 0;
-    while i < n {
-        let row = rows[i];
-        if row.d < times[i] {
-            return false;
-        }
-        i += 1;
-    }
-    true
+    (0..tasks.n).all(|i| times[i] <= tasks.rows[i].d)
 }
 
-// times, once the table is sound: the checks 6, 2 and 4, then the times. Nothing is written before all checks are made.
-fn times_of(table: &[u32], plan: &[u32], out: &mut [u32]) -> Answer
-    requires { SoundSlice table.now }
-    ensures { TimesRest plan.now out.old (table_of table.now)
-        (result_of result out.new) }
-{
-    let n = table.len() / ROW_WIDTH;
-    let rows = tables::rows_of(table, n);
-    let form = tables::check_plan(rows, n, plan);
-    if let PlanCheck::AtFault(at) = form {
-        return Answer::Plan(at);
-    }
-    if out.len() < TIMES_WIDTH * n {
-        return Answer::Room;
-    }
-    let all = sides::asks_of(table);
-    let asks = &all[..ASK_WIDTH * n];
-    let busy = sides::periods::busy_period(asks);
-    if let Busy::Beyond = busy {
-        return Answer::NoBusy;
-    }
-    write(responses::responses(rows, n, asks, plan), n, out);
-    Answer::Given((TIMES_WIDTH * n) as u32)
-}
-
-// verdict, once the table is sound: the checks 6 and 4, then the times against the deadlines.
-fn verdict_of(table: &[u32], plan: &[u32]) -> Answer
-    requires { SoundSlice table.now }
-    ensures { VerdictRest plan.now (table_of table.now) (result_of result []) }
-{
-    let n = table.len() / ROW_WIDTH;
-    let rows = tables::rows_of(table, n);
-    let form = tables::check_plan(rows, n, plan);
-    if let PlanCheck::AtFault(at) = form {
-        return Answer::Plan(at);
-    }
-    let all = sides::asks_of(table);
-    let asks = &all[..ASK_WIDTH * n];
-    let busy = sides::periods::busy_period(asks);
-    if let Busy::Beyond = busy {
-        return Answer::NoBusy;
-    }
-    if in_time(rows, n, responses::responses(rows, n, asks, plan)) {
-        return Answer::Given(1);
-    }
-    Answer::Given(0)
-}
-
-// The response of each row of the plan, one number a row.
+// The response of each row of the plan, one number a row. Nothing is written before all checks are made.
 pub fn times(table: &[u32], plan: &[u32], out: &mut [u32]) -> Answer
-    ensures { TimesAnswer table.now plan.now out.old
-        (result_of result out.new) }
+    ensures { TimesAnswer table.now plan.now out.old (result_of result out.new) }
 {
-    let checked = tables::check_table(table);
-    match checked {
-        TableCheck::Shape => Answer::Shape,
-        TableCheck::Range(at) => Answer::Range(at),
-        TableCheck::Sound(_) => times_of(table, plan, out),
+    let tasks = tables::check_table(table)?;
+    let places = TIMES_WIDTH * tasks.n;
+    tables::check_plan(&tasks, plan)?;
+    if out.len() < places {
+        return Err(Refusal::Room);
     }
+    let times = responses_of(&tasks, plan)?;
+    write(times, tasks.n, out);
+    Ok(places as u32)
 }
 
 // 1 where every response is at most its deadline, and 0 where one is not.
 pub fn verdict(table: &[u32], plan: &[u32]) -> Answer
     ensures { VerdictAnswer table.now plan.now (result_of result []) }
 {
-    let checked = tables::check_table(table);
-    match checked {
-        TableCheck::Shape => Answer::Shape,
-        TableCheck::Range(at) => Answer::Range(at),
-        TableCheck::Sound(_) => verdict_of(table, plan),
-    }
+    let tasks = tables::check_table(table)?;
+    tables::check_plan(&tasks, plan)?;
+    let times = responses_of(&tasks, plan)?;
+    Ok(u32::from(in_time(&tasks, times)))
 }

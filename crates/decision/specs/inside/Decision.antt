@@ -1,17 +1,12 @@
 -- What the functions that play decides with answer, in terms of the rule's own words. The promise of play does not rest
 -- on these definitions.
-use Rattle.std.specs.Prelude.{ℕ, ◌+◌, ◌*◌, ◌≤◌, ◌<◌, ◌≡◌, ◌⊎◌, true, false, List, length, get_or}
-use Rattle.tables.specs.Table.{Table, Sound, table_of, row_width, most_rows}
-use Rattle.tables.specs.Plan.{Plan, WellFormed, plan_of, plan_width}
+use Rattle.std.specs.Prelude.{ℕ, ◌+◌, ◌≤◌, ◌<◌, ◌≡◌, ◌⊎◌, true, false, Option, Some, None, List, length}
+use Rattle.std.specs.Prelude.{get_or}
+use Rattle.tables.specs.Table.{Table, most_rows}
+use Rattle.tables.specs.Plan.{Plan}
 use Rattle.tables.specs.Jobs.{Jobs}
 use Rattle.kernel.specs.Rule.{locked}
-
--- a table and a plan that play decides by
-pub record Ruled (table plan : List ℕ) : Type 0 where
-  pub sound : Sound (table_of table)
-  pub whole : length table ≡ row_width * (table_of table).n
-  pub plan_whole : length plan ≡ plan_width * (table_of table).n
-  pub formed : WellFormed (table_of table) (plan_of plan)
+use Rattle.decision.specs.declared.Head.{Head}
 
 -- k is the first job of row i from job `from` on; the number of jobs where there is none
 pub record Following (js : Jobs) (i from k : ℕ) : Type 0 where
@@ -20,11 +15,23 @@ pub record Following (js : Jobs) (i from k : ℕ) : Type 0 where
   pub is : k < js.N → js.row k ≡ i
   pub none : (l : ℕ) → from ≤ l → l < k → js.row l ≡ i → ⊥
 
--- heads holds each row's first job, and 0 past the rows
-pub record Heads (js : Jobs) (n : ℕ) (heads : List ℕ) : Type 0 where
+-- what stands past the last row
+abbrev pub no : Head
+no = record { job = 0; done = 0 }
+
+-- the earliest unfinished job of row i, and the ticks that it has executed
+abbrev pub job_in : List Head → ℕ → ℕ
+job_in heads i = (get_or heads i no).job
+
+abbrev pub done_in : List Head → ℕ → ℕ
+done_in heads i = (get_or heads i no).done
+
+-- heads holds each row's first job, of which no tick is executed, and 0 past the rows
+pub record Heads (js : Jobs) (n : ℕ) (heads : List Head) : Type 0 where
   pub places : length heads ≡ most_rows
-  pub first : (i : ℕ) → i < n → Following js i 0 (get_or heads i 0)
-  pub past : (i : ℕ) → n ≤ i → get_or heads i 0 ≡ 0
+  pub first : (i : ℕ) → i < n → Following js i 0 (job_in heads i)
+  pub past : (i : ℕ) → n ≤ i → job_in heads i ≡ 0
+  pub fresh : (i : ℕ) → done_in heads i ≡ 0
 
 -- the jobs from job `from` to before job `next` are released at tick t, and job `next`, where there is one, is not
 pub record Released (js : Jobs) (from t next : ℕ) : Type 0 where
@@ -40,12 +47,17 @@ pub record ByRank (tb : Table) (p : Plan) (order : List ℕ) : Type 0 where
   pub rank : (r : ℕ) → r < tb.n → p.rank (get_or order r 0) ≡ r + 1
   pub past : (r : ℕ) → tb.n ≤ r → get_or order r 0 ≡ 0
 
--- a row waits where its earliest unfinished job, at its place of heads, stands before job `next`; r is the first of
--- the order's n places whose row waits, and n where none does
-pub record Foremost (order heads : List ℕ) (n next r : ℕ) : Type 0 where
-  pub high : r ≤ n
-  pub waits : r < n → get_or heads (get_or order r 0) 0 < next
-  pub none : (s : ℕ) → s < r → next ≤ get_or heads (get_or order s 0) 0
+-- a row waits where its earliest unfinished job, at its place of heads, stands before job `next`; r is the first place
+-- of the order whose row waits
+pub record FirstWaiting (order : List ℕ) (heads : List Head) (next r : ℕ) : Type 0 where
+  pub high : r < length order
+  pub waits : job_in heads (get_or order r 0) < next
+  pub none : (s : ℕ) → s < r → next ≤ job_in heads (get_or order s 0)
+
+-- the first place of the order whose row waits, where one does
+abbrev pub Foremost : List ℕ → List Head → ℕ → Option ℕ → Type 0
+Foremost order heads next (Some r) = FirstWaiting order heads next r
+Foremost order heads next None = (s : ℕ) → s < length order → next ≤ job_in heads (get_or order s 0)
 
 -- a job of row i, of which e ticks of its run are executed, is locked until d are, which are all of its run, or with
 -- which it is not locked; d is e where it is not locked at all

@@ -1,80 +1,103 @@
 -- `finish_all` meets its contract: each turn of the loop is one decision, or goes on to the next release.
-use Prim.Native.Nat.{◌+◌, ◌≤◌}
-use mathlib.Core.Path.{◌≡◌}
+use Prim.Native.Nat.{ℕ, ◌≤◌}
 use native.Mathlib.Omega.{arith}
-use lib.ListN.{length, set}
-use Rattle.tables.specs.Table.{table_of}
+use lib.ListN.{length, take}
+use Rattle.std.proofs.Common.{None}
 use Rattle.tables.specs.Plan.{plan_of}
 use Rattle.tables.specs.Jobs.{jobs_of}
+use Rattle.tables.specs.inside.Rows.{table_in}
+use Rattle.decision.specs.inside.Decision.{FirstWaiting, Foremost}
 use Rattle.play.proofs.Standing.{next_on}
-use Rattle.play.proofs.Turn.{at, Playing, Gained, Decided, starts, decided, turns_fall}
+use Rattle.play.proofs.Turn.{at, Playing, Gained, Idle, Decided, starts, idle, decided, turns_fall}
 use Rattle.play.proofs.finish_all.Goals as goal
-use Rattle.play.proofs.finish_all.Goals.{After-foremost-r, After-released-next-in-loop-order}
-use Rattle.play.proofs.finish_all.Goals.{then-n-r+else-many-next, else-n-r+then-e-d, else-n-r+else-e-d}
+use Rattle.play.proofs.finish_all.Goals.{After-foremost, After-released-next-in-loop-t}
+use Rattle.play.proofs.finish_all.Goals.{in-None+else-many-next, in-Some+then-e-d, in-Some+else-e-d}
 
-pub loop-order-init : goal.loop-order-init
-loop-order-init c =
-    starts (table_of c.args.table.now) (plan_of c.args.plan.now) (jobs_of c.args.jobs.now)
-    c.requires.0.sound c.requires.0.formed c.requires.1 c.args.out.now c.first_jobs-heads.result
-    c.released-next.result c.first_jobs-heads.ensures c.released-next.ensures
+pub loop-t-init : goal.loop-t-init
+loop-t-init c =
+    let ruled = c.args.ruled.now in
+    starts (table_in ruled.tasks.now.rows ruled.tasks.now.n) (plan_of ruled.plan.now) (jobs_of c.args.jobs.now)
+    ruled.tasks.now.sound ruled.formed c.requires.0 c.args.out.now c.first_jobs-heads.result c.released-next.result
+    c.first_jobs-heads.ensures c.released-next.ensures
 
--- the decision is made: the row at place r of the rows by rank is the foremost, or none waits
-decision : (c : After-foremost-r) →
-    Decided (table_of c.args.table.now) (plan_of c.args.plan.now) (jobs_of c.args.jobs.now) c.args.out.now
-    c.loop-order.t c.loop-order.next c.loop-order.heads c.loop-order.done c.loop-order.out
-    c.foremost-r.result (at c.by_rank-order.result c.foremost-r.result)
-decision c =
-    let l = c.loop-order in
-    decided (table_of c.args.table.now) (plan_of c.args.plan.now) (jobs_of c.args.jobs.now)
-    c.requires.0.sound c.requires.0.formed c.requires.1 c.args.out.now l.t l.next l.heads l.done l.out
-    l.invariant.1 l.invariant.0 c.by_rank-order.result c.by_rank-order.ensures c.foremost-r.result
-    c.foremost-r.ensures
+-- no row waits
+idles : (c : After-foremost) →
+    let ruled = c.args.ruled.now in
+    let l = c.loop-t in
+    Foremost (take ruled.tasks.now.n c.by_rank-order.result) l.heads l.next None →
+    Idle (table_in ruled.tasks.now.rows ruled.tasks.now.n) (plan_of ruled.plan.now) (jobs_of c.args.jobs.now)
+    c.args.out.now l.t l.next l.heads l.out
+idles c =
+    let ruled = c.args.ruled.now in
+    let l = c.loop-t in
+    idle (table_in ruled.tasks.now.rows ruled.tasks.now.n) (plan_of ruled.plan.now) (jobs_of c.args.jobs.now)
+    ruled.tasks.now.sound ruled.formed c.requires.0 c.args.out.now l.t l.next l.heads l.out l.invariant.1
+    l.invariant.0 c.by_rank-order.result c.by_rank-order.ensures
+
+-- the row at place r of the rows by rank is the first that waits
+runs : (c : After-foremost) →
+    let ruled = c.args.ruled.now in
+    let l = c.loop-t in
+    (r : ℕ) → FirstWaiting (take ruled.tasks.now.n c.by_rank-order.result) l.heads l.next r →
+    Decided (table_in ruled.tasks.now.rows ruled.tasks.now.n) (plan_of ruled.plan.now) (jobs_of c.args.jobs.now)
+    c.args.out.now l.t l.next l.heads l.out (at c.by_rank-order.result r)
+runs c =
+    let ruled = c.args.ruled.now in
+    let l = c.loop-t in
+    decided (table_in ruled.tasks.now.rows ruled.tasks.now.n) (plan_of ruled.plan.now) (jobs_of c.args.jobs.now)
+    ruled.tasks.now.sound ruled.formed c.requires.0 c.args.out.now l.t l.next l.heads l.out l.invariant.1
+    l.invariant.0 c.by_rank-order.result c.by_rank-order.ensures
 
 pub returns-then-many-next : goal.returns-then-many-next
 returns-then-many-next c =
-    (decision (goal.at.returns-then-many-next c).After-foremost-r).over c.if-n-r.true c.if-many-next.true
+    (idles (goal.at.returns-then-many-next c).After-foremost c.in-None.ensures).over c.if-many-next.true
 
-pub overflow_add-t-else-n-r : goal.overflow_add-t-else-n-r
-overflow_add-t-else-n-r c =
-    let d = decision (goal.at.overflow_add-t-else-n-r c).After-foremost-r in
-    let runs = d.runs c.if-n-r.false in
-    omega (arith, runs, c.stretch-d.ensures)
+pub invariant_of-job : goal.invariant_of-job
+invariant_of-job c =
+    let running = (runs (goal.at.invariant_of-job c).After-foremost c.in-Some.r c.in-Some.ensures).runs in
+    record { small = running.small; left = running.left }
+
+pub overflow_add-t-in-Some : goal.overflow_add-t-in-Some
+overflow_add-t-in-Some c =
+    let running = (runs (goal.at.overflow_add-t-in-Some c).After-foremost c.in-Some.r c.in-Some.ensures).runs in
+    omega (arith, running, c.stretch-d.ensures)
 
 -- after the turn
-turned : (c : After-released-next-in-loop-order) →
-    Playing (table_of c.args.table.now) (plan_of c.args.plan.now) (jobs_of c.args.jobs.now) c.args.out.now
-    c.if-n-r.t c.if-n-r.heads c.if-n-r.done c.if-n-r.out
-    × Gained (jobs_of c.args.jobs.now) c.loop-order.next c.loop-order.t c.if-n-r.t c.loop-order.heads c.if-n-r.heads
+turned : (c : After-released-next-in-loop-t) →
+    let ruled = c.args.ruled.now in
+    let m = c.match-foremost in
+    Playing (table_in ruled.tasks.now.rows ruled.tasks.now.n) (plan_of ruled.plan.now) (jobs_of c.args.jobs.now)
+    c.args.out.now m.t m.heads m.out
+    × Gained (jobs_of c.args.jobs.now) c.loop-t.next c.loop-t.t m.t c.loop-t.heads m.heads
 turned c =
-    let d = decision (goal.at.loop-order-smaller c).After-foremost-r in
-    let l = c.loop-order in
-    let k = at l.heads (at c.by_rank-order.result c.foremost-r.result) in
-    let room : (jobs_of c.args.jobs.now).N ≤ length l.out = omega (arith, c.requires.2, l.invariant.0.whole) in
-    elim c.if-n-r.branch [
-      | then-n-r+else-many-next w ↦
-          rw (w.t-is, w.done-is, w.heads-is, w.out-is) (d.idles w.if-n-r.true w.if-many-next.false)
-      | else-n-r+then-e-d w ↦
-          rw (w.t-is, w.done-is, w.heads-is, w.out-is)
-          (d.goes_on w.if-n-r.false w.stretch-d.result w.stretch-d.ensures w.if-e-d.true)
-      | else-n-r+else-e-d w ↦
-          let finish : c.if-n-r.out ≡ set l.out k (l.t + w.stretch-d.result) = w.out-is in
-          rw (w.t-is, w.done-is, w.heads-is, finish)
-          (d.finishes w.if-n-r.false w.stretch-d.result w.following.result w.stretch-d.ensures w.if-e-d.false room
-          w.following.ensures)
+    let q = (goal.at.loop-t-smaller c).After-foremost in
+    let l = c.loop-t in
+    let room : (jobs_of c.args.jobs.now).N ≤ length l.out = omega (arith, c.requires.1, l.invariant.0.whole) in
+    elim c.match-foremost.branch [
+      | in-None+else-many-next w ↦
+          rw (w.t-is, w.heads-is, w.out-is) ((idles q w.in-None.ensures).idles w.if-many-next.false)
+      | in-Some+then-e-d w ↦
+          let row = runs q w.in-Some.r w.in-Some.ensures in
+          rw (w.t-is, w.heads-is, w.out-is) (row.goes_on w.stretch-d.result w.stretch-d.ensures w.if-e-d.true)
+      | in-Some+else-e-d w ↦
+          let row = runs q w.in-Some.r w.in-Some.ensures in
+          rw (w.t-is, w.heads-is, w.out-is)
+          (row.finishes w.stretch-d.result w.following.result w.stretch-d.ensures w.if-e-d.false room w.following.ensures)
     ]
 
-pub loop-order-smaller : goal.loop-order-smaller
-loop-order-smaller c =
-    let l = c.loop-order in
+pub loop-t-smaller : goal.loop-t-smaller
+loop-t-smaller c =
+    let l = c.loop-t in
     turns_fall _ l.next l.t _ _ l.heads _
-    (turned (goal.at.loop-order-smaller c).After-released-next-in-loop-order).1
-    c.released-next-in-loop-order.ensures
+    (turned (goal.at.loop-t-smaller c).After-released-next-in-loop-t).1
+    c.released-next-in-loop-t.ensures
 
-pub loop-order-preserved : goal.loop-order-preserved
-loop-order-preserved c =
-    let d = turned (goal.at.loop-order-preserved c).After-released-next-in-loop-order in
-    let came = c.loop-order.invariant.1.came in (
+pub loop-t-preserved : goal.loop-t-preserved
+loop-t-preserved c =
+    let ruled = c.args.ruled.now in
+    let d = turned (goal.at.loop-t-preserved c).After-released-next-in-loop-t in
+    let came = c.loop-t.invariant.1.came in (
       d.0,
-      next_on (table_of c.args.table.now) (jobs_of c.args.jobs.now) c.requires.1 _ _ _ _ d.1.later came
-          c.released-next-in-loop-order.ensures,
+      next_on (table_in ruled.tasks.now.rows ruled.tasks.now.n) (jobs_of c.args.jobs.now) c.requires.0 _ _ _ _ d.1.later came
+          c.released-next-in-loop-t.ensures,
     )

@@ -1,61 +1,54 @@
 -- `put_plan` meets its contract. The loop's invariant: the lines of the rows passed stand behind the first line.
-use Prim.Native.Nat.{ℕ, ◌≤◌, ◌<◌, ◌+◌, ◌*◌}
-use mathlib.Core.Path.{◌≡◌, refl, ◌∙◌}
-use mathlib.Core.List.{List}
+use Prim.Native.Nat.{ℕ, ◌/◌, ◌<◌}
+use mathlib.Core.Path.{◌≡◌}
+use mathlib.Core.List.{◌++◌}
 use native.Mathlib.Omega.{arith}
-use lib.ListN.{length}
-use Rattle.decimal.proofs.Placed.{put_none, put_behind}
+use lib.ListN.{length, length-append}
 use Rattle.tables.specs.Planned.{planned_width}
-use Rattle.printing.specs.Printed.{plan_line, row_lines, plan_text}
-use Rattle.printing.proofs.Printed.{line_of, rows_none, rows_more, rows_fit, text_whole, length_text}
+use Rattle.decimal.specs.inside.Placed.{Room}
+use Rattle.decimal.proofs.Placed.{room_front, room_behind, written_behind, written_none}
+use Rattle.printing.specs.Printed.{row_lines, plan_text}
+use Rattle.printing.proofs.Printed.{line_of, rows_none, rows_more, rows_fit}
 use Rattle.printing.proofs.put_plan.Goals as goal
+use Rattle.printing.proofs.put_plan.Goals.{After-put_head}
 
--- the room for the line of row i, where behind is the place behind the first line
-room : (planned : List ℕ) (n i behind len : ℕ) → length planned ≡ planned_width * n →
-    length (plan_text planned) ≤ len → behind ≡ 0 + length (plan_line n) → i < n →
-    behind + length (row_lines planned i) + length (line_of planned i) ≤ len
-room planned n i behind len w fits e h = omega (arith, length_text planned n w, rows_fit planned n i h)
-
-pub put_head-behind-requires : goal.put_head-behind-requires
-put_head-behind-requires c = omega (arith, length_text c.args.planned.now c.args.n c.requires.1)
+pub put_head-requires : goal.put_head-requires
+unfolding plan_text
+put_head-requires c = room_front _ _ c.requires.room
 
 pub loop-i-init : goal.loop-i-init
-loop-i-init c =
-    let h = c.put_head-behind in (omega arith, refl, rw rows_none (put_none h.new.buf h.result))
+loop-i-init c = rw rows_none (written_none c.put_head.new.text)
 
-pub put_row-behind-requires : goal.put_row-behind-requires
-put_row-behind-requires c =
-    let a = c.args in
+-- the room for the rows, and for the line of row i behind those before it
+rows_room : (c : After-put_head) →
+    let planned = c.args.planned.now in Room c.put_head.new.text (row_lines planned (length planned / planned_width))
+unfolding plan_text
+rows_room c = room_behind _ c.requires.room c.put_head.ensures
+
+line_room : (c : After-put_head) (i : ℕ) →
+    let planned = c.args.planned.now in
+    i < length planned / planned_width → Room c.put_head.new.text (row_lines planned i ++ line_of planned i)
+line_room c i h =
+    let planned = c.args.planned.now in
+    let fit = rows_fit planned (length planned / planned_width) i h in
+    record { fits = simp length-append (omega (arith, (rows_room c).fits, fit)) }
+
+pub put_row-requires : goal.put_row-requires
+put_row-requires c =
+    let k = (goal.at.put_row-requires c).After-put_head in
     let l = c.loop-i in
-    let h = c.put_head-behind in
-    omega (
-      arith,
-      room a.planned.now a.n l.i h.result (length a.buf.now) c.requires.1 c.requires.2 h.ensures.behind
-          c.loop-i-test.true,
-      h.auto.buf,
-      l.invariant.1,
-      l.invariant.2.behind,
-    )
+    room_behind _ (line_room k l.i c.loop-i-test.true) l.invariant
 
 pub loop-i-preserved : goal.loop-i-preserved
 loop-i-preserved c =
-    let a = c.args in
+    let k = (goal.at.loop-i-preserved c).After-put_head in
     let l = c.loop-i in
-    let h = c.put_head-behind in
-    let p = c.put_row-behind in
-    let same = h.auto.buf in
-    let r = room a.planned.now a.n l.i h.result (length a.buf.now) c.requires.1 c.requires.2 h.ensures.behind
-    c.loop-i-test.true in (
-      omega arith,
-      p.auto.buf ∙ l.invariant.1,
-      rw (rows_more a.planned.now l.i) (put_behind (omega arith) l.invariant.2 p.ensures),
-    )
+    rw (rows_more c.args.planned.now l.i)
+    (written_behind _ (line_room k l.i c.loop-i-test.true) l.invariant c.put_row.ensures)
 
 pub returns : goal.returns
+unfolding plan_text
 returns c =
-    let a = c.args in
     let l = c.loop-i in
-    let e : l.i ≡ a.n = omega arith in
-    rw (text_whole a.planned.now a.n c.requires.1)
-    (put_behind (omega (arith, c.requires.2, length_text a.planned.now a.n c.requires.1)) c.put_head-behind.ensures
-    (rw e at l.invariant.2))
+    let e : l.i ≡ length c.args.planned.now / planned_width = omega arith in
+    written_behind _ c.requires.room c.put_head.ensures (rw e at l.invariant)

@@ -1,35 +1,47 @@
 -- `put_row` meets its contract: word by word, each behind the one before.
-use native.Mathlib.Omega.{arith}
-use lib.ListN.{length-append}
-use Rattle.decimal.proofs.Placed.{put_behind}
+use Rattle.decimal.proofs.Placed.{room_front, room_behind, written_behind}
 use Rattle.printing.specs.Printed.{row_line}
-use Rattle.printing.proofs.Printed.{length_row_line}
 use Rattle.printing.proofs.put_row.Goals as goal
 
-pub put_field-named-requires : goal.put_field-named-requires
-put_field-named-requires c = let a = c.args in omega (arith, length_row_line a.i a.rank a.len a.response)
+pub field-requires : goal.field-requires
+unfolding row_line
+field-requires c = room_front _ _ (room_front _ _ (room_front _ _ (room_front _ _ c.requires)))
 
-pub put_field-ranked-requires : goal.put_field-ranked-requires
-put_field-ranked-requires c = let a = c.args in omega (arith, length_row_line a.i a.rank a.len a.response)
+pub field-requires-2 : goal.field-requires-2
+unfolding row_line
+field-requires-2 c = room_behind _ (room_front _ _ (room_front _ _ (room_front _ _ c.requires))) c.field.ensures
 
-pub put_field-long-requires : goal.put_field-long-requires
-put_field-long-requires c = let a = c.args in omega (arith, length_row_line a.i a.rank a.len a.response)
+pub field-requires-3 : goal.field-requires-3
+unfolding row_line
+field-requires-3 c =
+    let long = room_front _ _ (room_front _ _ c.requires) in
+    room_behind _ long (written_behind _ (room_front _ _ long) c.field.ensures c.field-2.ensures)
 
-pub put_field-timed-requires : goal.put_field-timed-requires
-put_field-timed-requires c = let a = c.args in omega (arith, length_row_line a.i a.rank a.len a.response)
+pub field-requires-4 : goal.field-requires-4
+unfolding row_line
+field-requires-4 c =
+    let timed = room_front _ _ c.requires in
+    let long = room_front _ _ timed in
+    room_behind _ timed
+    (written_behind _ long (written_behind _ (room_front _ _ long) c.field.ensures c.field-2.ensures) c.field-3.ensures)
 
-pub put_word-requires : goal.put_word-requires
-put_word-requires c = let a = c.args in omega (arith, length_row_line a.i a.rank a.len a.response)
+pub word-requires : goal.word-requires
+unfolding row_line
+word-requires c =
+    let timed = room_front _ _ c.requires in
+    let long = room_front _ _ timed in
+    room_behind _ c.requires
+    (written_behind _ timed
+    (written_behind _ long (written_behind _ (room_front _ _ long) c.field.ensures c.field-2.ensures) c.field-3.ensures)
+    c.field-4.ensures)
 
 pub returns : goal.returns
 unfolding row_line
 returns c =
-    let a = c.args in
-    let l = length_row_line a.i a.rank a.len a.response in
-    put_behind (simp length-append (omega arith))
-    (put_behind (simp length-append (omega arith))
-    (put_behind (simp length-append (omega arith))
-    (put_behind (simp length-append (omega arith)) c.put_field-named.ensures c.put_field-ranked.ensures)
-    c.put_field-long.ensures)
-    c.put_field-timed.ensures)
-    c.put_word.ensures
+    let timed = room_front _ _ c.requires in
+    let long = room_front _ _ timed in
+    written_behind _ c.requires
+    (written_behind _ timed
+    (written_behind _ long (written_behind _ (room_front _ _ long) c.field.ensures c.field-2.ensures) c.field-3.ensures)
+    c.field-4.ensures)
+    c.word.ensures

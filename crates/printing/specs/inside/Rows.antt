@@ -1,10 +1,11 @@
--- How many rows a count of numbers is.
-use Rattle.std.specs.Prelude.{ℕ, ◌*◌, ◌≤◌, ◌≡◌}
-use Rattle.tables.specs.Table.{most_rows}
+-- What the check 1 of a planned table answers.
+use Rattle.std.specs.Prelude.{ℕ, List, [], ◌∷◌, Result, Ok, Err}
 use Rattle.tables.specs.Planned.{planned_width}
+use Rattle.tables.specs.Checks.{Rows, planned_shape}
+use Rattle.tables.specs.inside.Checked.{RefusedBy}
+use Rattle.tables.specs.declared.answer.Refusal.{Refusal}
 
--- count numbers are n rows; 0 where they are not 1 to 32 rows
-pub record RowsIn (count n : ℕ) : Type 0 where
-  pub few : n ≤ most_rows
-  pub whole : 1 ≤ n → count ≡ planned_width * n
-  pub none : n ≡ 0 → (m : ℕ) → 1 ≤ m → m ≤ most_rows → count ≡ planned_width * m → ⊥
+-- the numbers are 1 to 32 rows; or they are refused by their shape
+abbrev pub RowsIn : List ℕ → Result (Unit {0}) Refusal → Type 0
+RowsIn planned (Ok _) = Rows planned_width planned
+RowsIn planned (Err r) = RefusedBy (planned_shape planned ∷ []) r

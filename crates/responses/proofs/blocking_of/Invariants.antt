@@ -2,9 +2,7 @@
 use Rattle.std.proofs.Common.{◌≡◌}
 use Rattle.tables.specs.Plan.{plan_of}
 use Rattle.responses.proofs.Plans.{longest_in}
-use Rattle.responses.proofs.Walk.{Counted}
 use Rattle.responses.proofs.blocking_of.Given as goal
 
 abbrev pub invariant-loop-i : goal.invariant-loop-i
-invariant-loop-i l =
-    Counted l.plan l.i-iterator × (l.longest ≡ longest_in (plan_of l.plan) l.blocks l.rank l.i-iterator.count)
+invariant-loop-i l = l.longest ≡ longest_in (plan_of l.plan) l.blocks l.rank l.i

@@ -5,13 +5,8 @@ use Rattle.tables.specs.Plan.{plan_of}
 use Rattle.tables.specs.inside.Rows.{table_in}
 use Rattle.test.specs.Test.{ResponseOf}
 use Rattle.responses.specs.inside.Asked.{Column}
-use Rattle.responses.proofs.Walk.{Counted}
 use Rattle.responses.proofs.responses.Given as goal
 
 abbrev pub invariant-loop-i : goal.invariant-loop-i
 invariant-loop-i l =
-    record {
-      walk : Counted l.plan l.i-iterator;
-      stored : Column l.i-iterator.count (ResponseOf (table_in l.tasks.rows l.tasks.n) (plan_of l.plan)) l.times;
-      room : length l.level ≡ most_rows;
-    }
+    Column l.i (ResponseOf (table_in l.tasks.rows l.tasks.n) (plan_of l.plan)) l.times × (length l.level ≡ most_rows)

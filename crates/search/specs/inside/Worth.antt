@@ -1,14 +1,16 @@
 -- The longest length of a row that is worth a try.
-use Rattle.std.specs.Prelude.{ℕ, ◌-◌, min, ◌≤◌, ◌<◌, ◌≡◌}
+use Rattle.std.specs.Prelude.{ℕ, Option, Some, None, ◌-◌, min, max, ◌≤◌, ◌<◌, ◌≡◌}
 use Rattle.tables.specs.inside.Rows.{cap_in}
-use Rattle.tables.specs.declared.Row.{Row}
+use Rattle.tables.specs.declared.task.Row.{Row}
+use Rattle.search.specs.declared.Candidate.{Candidate}
 
--- top is the longest length, of those up to `most`, with which a row of middle region M blocks with less than `best`, 0
--- where there is none; a best of 0 is none yet
-pub record Worth (M most best top : ℕ) : Type 0 where
-  pub first : best ≡ 0 → top ≡ most
-  pub beaten : 1 ≤ best → best ≤ M → top ≡ 0
-  pub shorter : 1 ≤ best → M < best → top ≡ min most (best - 1)
+-- top is the longest length, of 1 to `most`, with which a row of middle region M blocks with less than `best`; none
+-- where there is none
+pub record Worth (M most best : ℕ) (top : Option ℕ) : Type 0 where
+  pub beaten : best ≤ max M 1 → top ≡ None
+  pub shorter : max M 1 < best → top ≡ Some (min most (best - 1))
 
-abbrev pub WorthIn : Row → ℕ → ℕ → Type 0
-WorthIn row best top = Worth row.region (cap_in row) best top
+-- beside the best row so far, or none yet
+abbrev pub WorthIn : Row → Option Candidate → Option ℕ → Type 0
+WorthIn row None top = top ≡ Some (cap_in row)
+WorthIn row (Some best) top = Worth row.region (cap_in row) best.longer top

@@ -1,27 +1,22 @@
 -- `read_region` meets its contract: two numbers, one behind the other.
-use mathlib.Core.Path.{refl}
-use Rattle.reading.proofs.Pieces.{stuck_first, stuck_second, passed_both, alike_stuck, alike_passed}
-use Rattle.sheet.specs.inside.Read.{spaced, ended}
+use Rattle.reading.proofs.Pieces.{stuck_first, alike_stuck}
+use Rattle.reading.proofs.Cursors.{past_both, past_stuck, past_alike}
+use Rattle.sheet.specs.inside.Read.{spaced, ended, ReadsRegion}
 use Rattle.sheet.proofs.Lines.{region_alike, code_spaced}
-use Rattle.sheet.proofs.Reading.{some_length}
-use Rattle.sheet.proofs.Ticks.{region_some}
+use Rattle.sheet.proofs.Reading.{some_length, hands_on}
 use Rattle.sheet.proofs.read_region.Goals as goal
 
-pub returns-in-Stuck : goal.returns-in-Stuck
-returns-in-Stuck c =
-    alike_stuck region_alike (stuck_first (spaced 0) (λ _. ended) c.in-Stuck.ensures (λ _ _. some_length))
+pub returns-in_err-start : goal.returns-in_err-start
+returns-in_err-start c =
+    hands_on (ReadsRegion _ _) c.from_residual.ensures
+    (alike_stuck region_alike
+    (stuck_first (spaced 0) (λ _. ended) c.in_err-start.ensures.stuck (λ _ _. some_length)))
 
-pub returns-in-Stuck-region : goal.returns-in-Stuck-region
-returns-in-Stuck-region c =
-    alike_stuck region_alike
-    (stuck_second (spaced 0) (λ _. ended) (code_spaced 0) c.in-Past.ensures c.in-Stuck-region.ensures)
+pub returns-in_err-length : goal.returns-in_err-length
+returns-in_err-length c =
+    hands_on (ReadsRegion _ _) c.from_residual-in_err-length.ensures
+    (alike_stuck region_alike
+    (past_stuck (λ _. ended) c.in_ok-start.ensures (code_spaced 0) c.in_err-length.ensures.stuck))
 
-pub returns-in-Past-region : goal.returns-in-Past-region
-returns-in-Past-region c =
-    let second = rw c.in-Past-region.is at c.read_number-region.ensures in
-    let whole = passed_both (spaced 0) (λ _. ended) c.in-Past.ensures second in (
-      refl,
-      refl,
-      refl,
-      rw (← region_some _ _ second.allowed.0.low) (alike_passed region_alike whole),
-    )
+pub returns : goal.returns
+returns c = past_alike region_alike (past_both (λ _. ended) c.in_ok-start.ensures c.in_ok-length.ensures)

@@ -6,15 +6,17 @@ use mathlib.Core.List.{List, [], ◌∷◌, ◌++◌}
 use native.Mathlib.Omega.{arith}
 use lib.ListN.{drop, length-append, length-drop, length}
 use lib.Seq.{length-take-le}
-use borrow.Rule.Slice.PartMut.{put_mid, same_len_mid}
+use borrow.Rule.Slice.PartMut.{put_mid}
 use Rattle.counting.proofs.Cases.{by_le}
 use Rattle.tables.specs.Table.{row_width, most_rows}
 use Rattle.reading.specs.inside.Piece.{Passed}
 use Rattle.sheet.specs.Sheet.{Task, row_of, ticks_of}
-use Rattle.sheet.specs.inside.Read.{task_piece, Filled}
+use Rattle.sheet.specs.inside.Read.{task_piece, Filled, ReadsTasks}
 use Rattle.sheet.proofs.Fronts.{front_more, front_stuck, front_full}
+use Rattle.sheet.proofs.Reading.{hands_on}
 use Rattle.sheet.proofs.Ticks.{row_more}
 use Rattle.sheet.proofs.read_tasks.Goals as goal
+use Rattle.sheet.proofs.read_tasks.Goals.{After-put_ticks}
 
 -- a task line was there, and its row stands behind the others
 more : (text : List ℕ) (tick : ℕ) (before : List ℕ) (at n : ℕ) (table : List ℕ) (f : Filled text tick before at n table)
@@ -33,57 +35,67 @@ more text tick before at n table f task next row few line e =
 pub loop-n-init : goal.loop-n-init
 unfolding ticks_of
 loop-n-init c = (
-  omega arith,
   refl,
   (λ h. absurd (omega arith)),
   record { tasks = []; front = c.requires.0; many = refl; rows = refl },
 )
 
-pub returns-in-Stuck : goal.returns-in-Stuck
-returns-in-Stuck c =
+pub returns-in_err-times : goal.returns-in_err-times
+returns-in_err-times c =
+    let text = c.args.cursor.now.text.now in
     let l = c.loop-n in
-    let f = l.invariant.3 in
+    let f = l.invariant.2 in
     let few : length f.tasks < most_rows = omega (arith, f.many) in
-    front_stuck _ _ f.tasks l.at f.front c.in-Stuck.place few
-    (λ h. l.invariant.2 (omega (arith, f.many))) c.in-Stuck.ensures
+    hands_on (ReadsTasks text c.args.tick c.args.table.now l.table) c.from_residual.ensures
+    (front_stuck text _ f.tasks l.cursor.at f.front _ few (λ h. l.invariant.1 (omega (arith, f.many)))
+    (rw l.invariant.0 at c.in_err-times.ensures))
 
 pub put_ticks-requires : goal.put_ticks-requires
 put_ticks-requires c =
     let l = c.loop-n in
     let whole = c.requires.1 in
     let e : row_width * l.n + row_width - row_width * l.n ≡ row_width = omega arith in
-    let room : row_width ≤ length (drop (row_width * l.n) l.table) = simp length-drop (omega arith) in
-    let line = rw c.in-Past.is at c.read_task-line.ensures in (
+    let room : row_width ≤ length (drop (row_width * l.n) l.table) = simp length-drop (omega arith) in (
       rw e (length-take-le row_width (drop (row_width * l.n) l.table) room),
-      line.allowed,
+      c.in_ok-times.ensures.passed.allowed,
       c.requires.0.tick_within,
     )
 
-pub returns-then-at-text : goal.returns-then-at-text
-returns-then-at-text c =
+-- the line at hand, and its row
+line_more : (c : After-put_ticks) →
     let a = c.args in
     let l = c.loop-n in
-    let m = more a.text.now a.tick a.table.now l.at l.n l.table l.invariant.3 _ c.in-Past.next.at c.put_ticks.new.row
-    (omega (arith, c.loop-n-test.true)) c.in-Past.ensures c.put_ticks.ensures in
-    (omega arith, rw c.if-at-text.true at m)
+    Filled a.cursor.now.text.now a.tick a.table.now c.read_task.new.cursor.at (l.n + 1)
+    (put_mid (row_width * l.n) (row_width * l.n + row_width - row_width * l.n) l.table c.put_ticks.new.row)
+line_more c =
+    let a = c.args in
+    let l = c.loop-n in
+    more a.cursor.now.text.now a.tick a.table.now l.cursor.at l.n l.table l.invariant.2 _ c.read_task.new.cursor.at
+    c.put_ticks.new.row c.loop-n-test.true (rw l.invariant.0 at c.in_ok-times.ensures.passed) c.put_ticks.ensures
+
+-- the text is the same
+same_text : (c : After-put_ticks) → c.read_task.new.cursor.text ≡ c.args.cursor.now.text
+same_text c = c.in_ok-times.ensures.text ∙ c.loop-n.invariant.0
+
+pub returns-then-cursor : goal.returns-then-cursor
+returns-then-cursor c =
+    let k = (goal.at.returns-then-cursor c).After-put_ticks in
+    let end = rw (same_text k) at c.if-cursor.true in
+    (omega arith, rw end at (line_more k))
 
 pub loop-n-preserved : goal.loop-n-preserved
 loop-n-preserved c =
-    let a = c.args in
-    let l = c.loop-n in
-    let p = c.put_ticks in
-    let line = rw c.in-Past.is at c.read_task-line.ensures in (
-      omega (arith, c.loop-n-test.true),
-      same_len_mid (row_width * l.n) (row_width * l.n + row_width - row_width * l.n) l.table p.new.row p.auto.row
-          ∙ l.invariant.1,
-      λ _. by_le (length a.text.now) c.in-Past.next.at
-          (λ g. absurd (c.if-at-text.false (omega (arith, line.within)))) (λ g. g),
-      more a.text.now a.tick a.table.now l.at l.n l.table l.invariant.3 _ c.in-Past.next.at p.new.row
-          (omega (arith, c.loop-n-test.true)) c.in-Past.ensures p.ensures,
+    let k = (goal.at.loop-n-preserved c).After-put_ticks in
+    let text = c.args.cursor.now.text.now in
+    let within : c.read_task.new.cursor.at ≤ length text = rw (same_text k) at c.read_task.new.cursor.within in
+    let on = rw (same_text k) at c.if-cursor.false in (
+      same_text k,
+      (λ _. by_le (length text) c.read_task.new.cursor.at (λ g. absurd (on (omega arith))) (λ g. g)),
+      line_more k,
     )
 
 pub returns : goal.returns
 returns c =
     let l = c.loop-n in
-    let f = l.invariant.3 in
-    front_full _ _ f.tasks l.at f.front (omega (arith, f.many)) (l.invariant.2 (omega arith))
+    let f = l.invariant.2 in
+    front_full _ _ f.tasks l.cursor.at f.front (omega (arith, f.many)) (l.invariant.1 (omega arith))

@@ -9,14 +9,14 @@ use lib.Seq.{length-take-le}
 use Rattle.tables.specs.Table.{row_width, most_rows}
 use Rattle.sheet.specs.Sheet.{ticks_of}
 use Rattle.sheet.specs.inside.Read.{ReadsSheet}
-use Rattle.sheet.specs.declared.SheetRead.TheVariants as whole
+use Rattle.std.proofs.Common.{Ok}
 use Rattle.sheet.proofs.Fronts.{place_bound}
 use Rattle.sheet.proofs.Answers.{ticks_rows, ticks_front}
 use Rattle.sheet.proofs.sheet.Goals as goal
 
 -- the whole text was read: the table's front is that of the sheet
 module _ (text table : List ℕ) (n : ℕ)
-    (read : ReadsSheet text (replicate (row_width * most_rows) 0) table (whole.Whole n)) where
+    (read : ReadsSheet text (replicate (row_width * most_rows) 0) table (Ok n)) where
   front : take (row_width * n) table ≡ ticks_of read.0 read.1
   front = ticks_front read.0 read.1 n table (drop (row_width * n) (replicate (row_width * most_rows) 0)) read.3 read.4
 
@@ -24,28 +24,28 @@ module _ (text table : List ℕ) (n : ℕ)
   few = omega (arith, read.3, read.2.formed.few)
 
 pub overflow_cast-result : goal.overflow_cast-result
-overflow_cast-result c = omega (arith, place_bound _ c.in-Stuck.place c.in-Stuck.ensures)
+overflow_cast-result c = omega (arith, place_bound _ c.in-Err.place c.in-Err.ensures)
 
 pub slice_bounds-give-end : goal.slice_bounds-give-end
 slice_bounds-give-end c =
-    let n = c.in-Whole.n in
-    let table = c.read_sheet-got.new.table in
+    let n = c.in-Ok.n in
+    let table = c.read_sheet.new.table in
     sym (length-take-le (row_width * n) table
-    (omega (arith, few c.args.text.now table n c.in-Whole.ensures, c.read_sheet-got.auto.table)))
+    (omega (arith, few c.args.text.now table n c.in-Ok.ensures, c.read_sheet.auto.table)))
 
 pub give-requires : goal.give-requires
 give-requires c =
-    let n = c.in-Whole.n in
-    let table = c.read_sheet-got.new.table in
-    let read = c.in-Whole.ensures in
+    let n = c.in-Ok.n in
+    let table = c.read_sheet.new.table in
+    let read = c.in-Ok.ensures in
     rw (front c.args.text.now table n read) (ticks_rows read.0 read.1 read.2.formed)
 
-pub returns-in-Stuck : goal.returns-in-Stuck
-returns-in-Stuck c = inl (record { number = refl; place = c.in-Stuck.ensures; value = refl; unwritten = refl })
+pub returns-in-Err : goal.returns-in-Err
+returns-in-Err c = inl (record { number = refl; place = c.in-Err.ensures; value = refl; unwritten = refl })
 
-pub returns-in-Whole : goal.returns-in-Whole
-returns-in-Whole c =
-    let n = c.in-Whole.n in
-    let table = c.read_sheet-got.new.table in
-    let read = c.in-Whole.ensures in
+pub returns-in-Ok : goal.returns-in-Ok
+returns-in-Ok c =
+    let n = c.in-Ok.n in
+    let table = c.read_sheet.new.table in
+    let read = c.in-Ok.ensures in
     inr (read.0, read.1, read.2, rw (← front c.args.text.now table n read) c.give.ensures)

@@ -1,22 +1,19 @@
--- What the readers of lines answer: each case of their enums, said of the line that is read.
-use Rattle.std.specs.Prelude.{ℕ, zero, suc, ◌*◌, ◌≤◌, ◌≡◌, List, [], ◌++◌, length, drop}
+-- What the readers of lines answer, said of the line that is read.
+use Rattle.std.specs.Prelude.{ℕ, ◌*◌, ◌≤◌, ◌≡◌, List, [], ◌++◌, length, drop}
+use Rattle.std.specs.Prelude.{Option as Maybe, Some, None, Result, Ok, Err}
 use Rattle.std.proofs.Math.Option.{Option, none, some}
 use Rattle.tables.specs.Table.{row_width, most_rows}
 use Rattle.decimal.specs.Word.{word}
 use Rattle.decimal.specs.Decimal.{decimal}
 use Rattle.reading.specs.Begins.{Between}
-use Rattle.reading.specs.inside.Piece.{Piece, Passed, number_piece, followed}
-use Rattle.reading.specs.inside.Piece as piece
-use Rattle.reading.specs.declared.NumberRead.{NumberRead}
-use Rattle.reading.specs.declared.NumberRead.TheVariants as number
+use Rattle.reading.specs.inside.Piece.{Piece, number_piece, followed, Stuck}
+use Rattle.reading.specs.inside.Read.{Past}
+use Rattle.reading.specs.declared.Cursor.{Cursor}
 use Rattle.sheet.specs.Sheet.{Region, Task, longest_tick, longest_time, tick_line, task_line, RegionWithin}
 use Rattle.sheet.specs.Sheet.{TaskWithin, TasksWithin, sheet_text, Sheet, ticks_of}
 use Rattle.sheet.specs.Answers.{sheet_form}
 use Rattle.sheet.specs.declared.Times.{Times}
-use Rattle.sheet.specs.declared.LineRead.{LineRead}
-use Rattle.sheet.specs.declared.LineRead.TheVariants as line
-use Rattle.sheet.specs.declared.SheetRead.{SheetRead}
-use Rattle.sheet.specs.declared.SheetRead.TheVariants as sheet
+use Rattle.sheet.specs.declared.RegionTimes.{RegionTimes}
 
 abbrev pub tick_piece : Piece
 tick_piece = record { Value = ℕ; text = tick_line; Allowed = Between 1 longest_tick }
@@ -24,9 +21,9 @@ tick_piece = record { Value = ℕ; text = tick_line; Allowed = Between 1 longest
 abbrev pub task_piece : Piece
 task_piece = record { Value = Task; text = task_line; Allowed = TaskWithin }
 
-abbrev pub ReadsTick : List ℕ → NumberRead → Type 0
-ReadsTick s (number.Past tick _ next) = Passed tick_piece s 0 tick next.at
-ReadsTick s (number.Stuck place) = piece.Stuck tick_piece s 0 place
+abbrev pub ReadsTick : Cursor → Cursor → Result ℕ ℕ → Type 0
+ReadsTick c d (Ok tick) = Past tick_piece c d tick
+ReadsTick c d (Err place) = Stuck tick_piece c.text.now c.at place
 
 -- a time of at least so much with a space behind it, one with a space or a line feed, and one that ends the line
 abbrev pub spaced : ℕ → Piece
@@ -65,30 +62,25 @@ times_piece = followed (spaced 1) (λ _. after_run)
 abbrev pub told : times_piece.Value → Task
 told v = record { C = v.0.0; D = v.1.0.0; T = v.1.1.0.0; region = v.1.1.1 }
 
--- a region by its two numbers, of which 0 and 0 are none
-abbrev pub region_of : ℕ → ℕ → Option Region
-region_of zero zero = none
-region_of zero (suc l) = some (record { start = 0; length = suc l })
-region_of (suc s) l = some (record { start = suc s; length = l })
+-- the region and the task that were read
+abbrev pub region_of : Maybe RegionTimes → Option Region
+region_of None = none
+region_of (Some r) = some (record { start = r.start; length = r.length })
 
 abbrev pub task_of : Times → Task
-task_of t = record { C = t.c; D = t.d; T = t.t; region = region_of t.start t.length }
+task_of t = record { C = t.c; D = t.d; T = t.t; region = region_of t.region }
 
--- the region behind the three times that are known
-abbrev pub ReadsRegion : Times → List ℕ → ℕ → LineRead → Type 0
-ReadsRegion known s at (line.Past t next) =
-    (t.c ≡ known.c) × (t.d ≡ known.d) × (t.t ≡ known.t)
-    × Passed (region_piece 32) s at (region_of t.start t.length) next.at
-ReadsRegion known s at (line.Stuck place) = piece.Stuck (region_piece 32) s at place
+abbrev pub ReadsRegion : Cursor → Cursor → Result RegionTimes ℕ → Type 0
+ReadsRegion c d (Ok r) = Past (region_piece 32) c d (region_of (Some r))
+ReadsRegion c d (Err place) = Stuck (region_piece 32) c.text.now c.at place
 
-abbrev pub ReadsTimes : List ℕ → ℕ → LineRead → Type 0
-ReadsTimes s at (line.Past t next) =
-    (v : times_piece.Value) × (told v ≡ task_of t) × Passed times_piece s at v next.at
-ReadsTimes s at (line.Stuck place) = piece.Stuck times_piece s at place
+abbrev pub ReadsTimes : Cursor → Cursor → Result Times ℕ → Type 0
+ReadsTimes c d (Ok t) = (v : times_piece.Value) × (told v ≡ task_of t) × Past times_piece c d v
+ReadsTimes c d (Err place) = Stuck times_piece c.text.now c.at place
 
-abbrev pub ReadsTask : List ℕ → ℕ → LineRead → Type 0
-ReadsTask s at (line.Past t next) = Passed task_piece s at (task_of t) next.at
-ReadsTask s at (line.Stuck place) = piece.Stuck task_piece s at place
+abbrev pub ReadsTask : Cursor → Cursor → Result Times ℕ → Type 0
+ReadsTask c d (Ok t) = Past task_piece c d (task_of t)
+ReadsTask c d (Err place) = Stuck task_piece c.text.now c.at place
 
 -- up to the place at the text is the first line and the lines of the tasks ts, all within their limits
 pub record Front (text : List ℕ) (tick : ℕ) (ts : List Task) (at : ℕ) : Type 0 where
@@ -106,12 +98,12 @@ pub record Filled (text : List ℕ) (tick : ℕ) (before : List ℕ) (at n : ℕ
   pub many : length tasks ≡ n
   pub rows : table ≡ ticks_of tick tasks ++ drop (row_width * n) before
 
-abbrev pub ReadsTasks : List ℕ → ℕ → List ℕ → List ℕ → SheetRead → Type 0
-ReadsTasks s tick before table (sheet.Whole n) = (1 ≤ n) × Filled s tick before (length s) n table
-ReadsTasks s tick before table (sheet.Stuck place) = (sheet_form s).hits place
+abbrev pub ReadsTasks : List ℕ → ℕ → List ℕ → List ℕ → Result ℕ ℕ → Type 0
+ReadsTasks s tick before table (Ok n) = (1 ≤ n) × Filled s tick before (length s) n table
+ReadsTasks s tick before table (Err place) = (sheet_form s).hits place
 
-abbrev pub ReadsSheet : List ℕ → List ℕ → List ℕ → SheetRead → Type 0
-ReadsSheet s before table (sheet.Whole n) =
+abbrev pub ReadsSheet : List ℕ → List ℕ → List ℕ → Result ℕ ℕ → Type 0
+ReadsSheet s before table (Ok n) =
     (tick : ℕ) × (ts : List Task) × Sheet s tick ts × (length ts ≡ n)
     × (table ≡ ticks_of tick ts ++ drop (row_width * n) before)
-ReadsSheet s before table (sheet.Stuck place) = (sheet_form s).hits place
+ReadsSheet s before table (Err place) = (sheet_form s).hits place

@@ -2,8 +2,5 @@
 use Rattle.sides.proofs.Pack.{Packing}
 use Rattle.sides.proofs.level_of.Given as goal
 
-abbrev pub invariant-loop-rest : goal.invariant-loop-rest
-invariant-loop-rest l = Packing l.asks l.set l.fn.level l.level l.m l.rest
-
-abbrev pub decreases-loop-rest : goal.decreases-loop-rest
-decreases-loop-rest l = l.rest
+abbrev pub invariant-loop-m : goal.invariant-loop-m
+invariant-loop-m l = Packing l.asks l.set l.fn.level l.level l.m-iterator.count l.m-iterator.iter.rest
