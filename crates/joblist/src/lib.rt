@@ -7,7 +7,7 @@ ghost use Rattle.tables.specs.inside.Rows.{table_in};
 ghost use Rattle.tables.specs.inside.Checked.{Says};
 ghost use Rattle.joblist.specs.inside.Listed.{KeepsAlone, ListSaid};
 
-use tables::{JOB_WIDTH, LAST_RELEASE, MOST_JOBS, Refusal, Tasks};
+use tables::{JOB_WIDTH, LAST_RELEASE, MOST_JOBS, MOST_ROWS, Refusal, Tasks};
 
 // Whether job k keeps the rules that it can break by itself.
 pub fn keeps_alone(tasks: &Tasks, jobs: &[u32], k: usize) -> bool
@@ -30,7 +30,7 @@ pub fn check_jobs(tasks: &Tasks, jobs: &[u32]) -> Result<u32, Refusal>
         return Err(Refusal::JobsShape);
     }
     let mut last = 0;
-    let mut earliest = [0; 32];
+    let mut earliest = [0; MOST_ROWS];
     for k in 0..many {
         let at = JOB_WIDTH * k;
         let i = jobs[at] as usize;

@@ -1,5 +1,5 @@
--- The front that the operations share, as answers: what each check function says of the checks 1, 3, 6 and 2, which
--- refuse or are clear and leave the answer to the rest.
+-- The front that the operations share, as answers: the checks that they begin with refuse, or are clear and leave the
+-- answer to the rest.
 use Prim.Native.Nat.{ℕ, ◌≤◌, ◌<◌}
 use mathlib.Core.Path.{refl, subst}
 use mathlib.Core.Logic.{◌⊎◌, inl, ⊎_elim}
@@ -9,10 +9,10 @@ use lib.ListN.{length}
 use Rattle.std.proofs.Common.{Ok, Err}
 use Rattle.tables.specs.Table.{Table, table_of}
 use Rattle.tables.specs.Refusal.{Check, Clear, Result, bare, Refused}
-use Rattle.tables.specs.Checks.{shape, range, plan_form, room}
+use Rattle.tables.specs.Checks.{shape, range, room}
 use Rattle.tables.specs.Answer.{result_of}
 use Rattle.tables.specs.inside.Rows.{table_in}
-use Rattle.tables.specs.inside.Checked.{AllClear, RefusedBy, TableChecked, PlanChecked}
+use Rattle.tables.specs.inside.Checked.{AllClear, RefusedBy, TableChecked}
 use Rattle.tables.specs.declared.answer.Refusal.{Refusal}
 use Rattle.tables.specs.declared.answer.Refusal.TheVariants.{Room}
 use Rattle.tables.specs.declared.task.Tasks.{Tasks}
@@ -37,21 +37,11 @@ front_clear (c ∷ cs) out r X clear x = clear.0 past front_clear cs out r X cle
 
 -- the checks 1 and 3
 module _ (xs out : List ℕ) where
-  pub table_refuses : (r : Refusal) {X : Type 0} → TableChecked xs (Err r) →
-      Front (shape xs ∷ range xs ∷ []) out (result_of (Err r) out) X
-  table_refuses r {X} = front_refuses (shape xs ∷ range xs ∷ []) out r X
-
   -- an answer for the table of the rows is one for the table that stands in the slice
   pub rest_answers : (tasks : Tasks) → TableChecked xs (Ok tasks) → (X : Table → Result → Type 0) {r : Result} →
       X (table_in tasks.rows tasks.n) r → Front (shape xs ∷ range xs ∷ []) out r (X (table_of xs) r)
   rest_answers tasks w X {r} x =
       front_clear (shape xs ∷ range xs ∷ []) out r (X (table_of xs) r) w.0 (subst (λ t. X t r) w.1.same x)
-
--- the check 6
-module _ (tb : Table) (ps out : List ℕ) where
-  pub form_refuses : (r : Refusal) {X : Type 0} → PlanChecked tb ps (Err r) →
-      Front (plan_form tb ps ∷ []) out (result_of (Err r) out) X
-  form_refuses r {X} = front_refuses (plan_form tb ps ∷ []) out r X
 
 -- the check 2
 module _ (m : ℕ) (out : List ℕ) where

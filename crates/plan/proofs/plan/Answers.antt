@@ -1,19 +1,22 @@
 -- `plan` meets its contract: the checks 1, 3, 2 and 4 in this order, the filling and its stop, then the parts.
-use Prim.Native.Nat.{ℕ, ◌*◌}
-use mathlib.Core.List.{[], ◌∷◌}
+use Prim.Native.Nat.{ℕ}
+use mathlib.Core.List.{List, [], ◌∷◌}
 use Rattle.std.proofs.lemmas.Result.{err_from_is_err_and}
 use Rattle.tables.specs.Table.{Table}
-use Rattle.tables.specs.Refusal.{Result}
+use Rattle.tables.specs.Refusal.{Result, bare, Answered}
 use Rattle.tables.specs.inside.Rows.{table_in}
 use Rattle.test.specs.Answers.{no_busy}
-use Rattle.choice.specs.Answers.{PlanAnswer}
+use Rattle.choice.specs.Answers.{PlanAnswer, PlanGiven, plan_rest}
 use Rattle.tables.proofs.Answered.{◌past◌}
 use Rattle.tables.proofs.Front.{front_refuses, rest_answers, room_refuses, room_clear}
 use Rattle.times.proofs.Busy.{busy_clear, asked_busy}
-use Rattle.plan.specs.inside.Given.{PlanRest}
 use Rattle.plan.proofs.Answers.{stopped_refuses, chosen_clear, plan_given}
 use Rattle.plan.proofs.plan.Goals as goal
 use Rattle.plan.proofs.plan.Goals.{In_ok-tasks}
+
+-- plan, after the checks 1 and 3
+abbrev PlanRest : List ℕ → Table → Result → Type 0
+PlanRest out tb r = Answered bare (plan_rest out tb) (PlanGiven tb out) out r
 
 -- an answer for the table of the rows is the operation's
 over : (c : In_ok-tasks) {r : Result} →
@@ -40,7 +43,7 @@ pub returns-in_default : goal.returns-in_default
 returns-in_default c =
     over (goal.at.returns-in_default c).In_ok-tasks
     (room_clear _ _ c.if-out-places.false past busy_clear (asked_busy c.in_ok-asks.ensures)
-    past ?)
+    past stopped_refuses _ c.in_default.ensures.stop)
 
 pub write-requires : goal.write-requires
 write-requires c = (c.in_ok-tasks.tasks.sound.few, c.if-out-places.false)

@@ -1,12 +1,7 @@
--- The task table that stands in an array of row structs, and a slice that its rows may be read from.
-use Rattle.std.specs.Prelude.{ℕ, ◌+◌, ◌-◌, ◌*◌, max, ◌≤◌, ◌<◌, ◌≡◌, List, length, get_or}
-use Rattle.tables.specs.Table.{Table, Sound, row_width, table_of}
+-- The task table that stands in an array of row structs, and the row that stands in five numbers of a slice.
+use Rattle.std.specs.Prelude.{ℕ, ◌+◌, ◌-◌, ◌*◌, max, ◌≤◌, ◌<◌, List, get_or}
+use Rattle.tables.specs.Table.{Table, row_width}
 use Rattle.tables.specs.declared.task.Row.{Row}
-
--- a slice that the checks 1 and 3 have let through: whole rows of a sound table
-pub record SoundSlice (xs : List ℕ) : Type 0 where
-  pub sound : Sound (table_of xs)
-  pub whole : length xs ≡ row_width * (table_of xs).n
 
 -- what stands past the last row
 abbrev pub no : Row

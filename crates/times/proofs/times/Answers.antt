@@ -1,16 +1,22 @@
 -- `times` meets its contract: the checks 1, 3, 6, 2 and 4 in this order, then the responses.
-use mathlib.Core.List.{[], ◌∷◌}
+use Prim.Native.Nat.{ℕ}
+use mathlib.Core.List.{List, [], ◌∷◌}
 use Rattle.std.proofs.lemmas.Result.{err_from_is_err_and}
 use Rattle.tables.proofs.Answered.{◌past◌}
 use Rattle.tables.proofs.Front.{front_refuses, rest_answers, room_refuses, room_clear}
-use Rattle.tables.specs.Refusal.{Result}
+use Rattle.tables.specs.Table.{Table}
+use Rattle.tables.specs.Plan.{plan_of}
+use Rattle.tables.specs.Refusal.{Result, bare, Answered}
 use Rattle.tables.specs.inside.Rows.{table_in}
-use Rattle.test.specs.Answers.{no_busy, TimesAnswer}
-use Rattle.times.specs.inside.Given.{TimesRest}
+use Rattle.test.specs.Answers.{no_busy, TimesAnswer, TimesGiven, times_rest}
 use Rattle.times.proofs.Answers.{times_given}
 use Rattle.times.proofs.Busy.{busy_clear}
 use Rattle.times.proofs.times.Goals as goal
 use Rattle.times.proofs.times.Goals.{In_ok-tasks}
+
+-- times, after the checks 1 and 3
+abbrev TimesRest : List ℕ → List ℕ → Table → Result → Type 0
+TimesRest ps out tb r = Answered bare (times_rest ps out tb) (TimesGiven tb (plan_of ps) out) out r
 
 -- an answer for the table of the rows is the operation's
 over : (c : In_ok-tasks) {r : Result} →
