@@ -67,7 +67,7 @@ pub fn play(table: &[u32], plan: &[u32], jobs: &[u32], out: &mut [u32]) -> Answe
 {
     let tasks = tables::check_table(table)?;
     tables::check_plan(&tasks, plan)?;
-    let many = joblist::check_jobs(&tasks, jobs)?;
+    let many = joblist::check_jobs(&tasks.rows[..tasks.n], jobs)?;
     if out.len() < many as usize {
         return Err(Refusal::Room);
     }

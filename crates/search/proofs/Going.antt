@@ -95,7 +95,8 @@ module _ (tb : Table) where
         ) in
         omega (arith, g.blocks, room tb p (rank rest) (marked rest) pos out t h)
 
-    pub going_stops : {r : ℕ} → r ≡ rank rest → 1 ≤ rank rest → NoneFits tb (marked rest) b (marked rest) → StoppedAt tb r
+    pub going_stops : {r : ℕ} → r ≡ rank rest → 1 ≤ rank rest → NoneFits tb (marked rest) b (marked rest) →
+        StoppedAt tb r
     going_stops e some none =
         record {
           stop =
@@ -200,7 +201,9 @@ module _ (tb : Table) where
                 λ j l e.
                 by_eq j y
                 (λ v. rw (v, get_or-set_same times y R 0 (omega (arith, g.whole))) timed_y)
-                (λ v. rw (get_or-set_other times y j R 0 v) (timed_other j l v (gone j v e) (g.timed j l (gone j v e))));
+                (λ v.
+                let m = gone j v e in
+                rw (get_or-set_other times y j R 0 v) (timed_other j l v m (g.timed j l m)));
             plan_past =
                 λ k h. put_other plan y (rank rest) q k (λ e. omega (arith, t.row)) (λ e. omega (arith, t.row))
                 ∙ g.plan_past k h;

@@ -122,7 +122,8 @@ module _ {tb : Table} {U : ℕ → Bool} {b : ℕ} {W : ℕ → Bool} where
               (λ old. w.least z l x v old lo hi f);
         }
 
-    over_good : (y : Option Candidate) → Over (tb.M i) y → LeadsIfAny tb U b W rest y → (l : ℕ) → 1 ≤ l → AsGood tb i l y
+    over_good : (y : Option Candidate) → Over (tb.M i) y → LeadsIfAny tb U b W rest y → (l : ℕ) → 1 ≤ l →
+        AsGood tb i l y
     over_good None o k l lo = absurd o
     over_good (Some y) o k l lo =
         (omega (arith, longer_is tb i l), λ lt. absurd (omega (arith, k.later i n.first.holds)))

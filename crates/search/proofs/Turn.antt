@@ -8,15 +8,16 @@ use Rattle.std.specs.Prelude.{Option, Some, None, IfSome}
 use lib.Count.{count_trailing_zeros}
 use lib.ListN.{length, get_or, take}
 use Rattle.counting.specs.Sum.{without}
-use Rattle.marks.specs.inside.Marks.{marked, Both}
+use Rattle.marks.specs.inside.Marks.{marked, Both, Placed}
 use Rattle.marks.proofs.Marks.{something}
 use Rattle.tables.specs.Table.{Table, SoundRow, most_rows}
 use Rattle.tables.specs.Plan.{cap}
+use Rattle.tables.specs.inside.Rows.{table_in}
+use Rattle.tables.specs.declared.task.Tasks.{Tasks}
 use Rattle.tables.proofs.Plan.{cap_run}
 use Rattle.test.specs.Test.{horizon, upto, load, Active, active_side}
 use Rattle.test.proofs.Load.{Positive}
-use Rattle.marks.specs.inside.Marks.{Placed}
-use Rattle.sides.specs.inside.Asks.{again}
+use Rattle.sides.specs.inside.Asks.{nothing, again}
 use Rattle.sides.specs.declared.ask.Ask.{Ask}
 use Rattle.sides.specs.inside.Level.{active_of, Packed, LeftOut, PutBack}
 use Rattle.sides.specs.inside.Found.{Fixed, FixedWithin}
@@ -27,6 +28,10 @@ use Rattle.sides.proofs.Rows.{read_is}
 use Rattle.responses.proofs.Jobs.{Working}
 use Rattle.search.proofs.Period.{Searchable, positive, period_within, period_first, period_exists, period_found}
 use Rattle.search.proofs.Period.{kept_without}
+
+-- the table that tasks hold
+abbrev pub table : Tasks → Table
+table tasks = table_in tasks.rows tasks.n
 
 -- row i is tried, with the rows at which P passes above it: they ask for `first` in the first tick, and L is its active
 -- period, within the bound
@@ -95,7 +100,8 @@ module _ {tb : Table} {asks : List Ask} {unplaced repeats b runs bound set : ℕ
 
   pub turn_period : FixedWithin (active_of (take m level) first) 1 first
   turn_period =
-      period_exists t.search (count_trailing_zeros unplaced unplaced) (something unplaced t.search.some) asking asks_runs
+      let some = something unplaced t.search.some in
+      period_exists t.search (count_trailing_zeros unplaced unplaced) some asking asks_runs
 
   -- row i is taken in hand
   module _ (i : ℕ) (among : U i ≡ true) where
@@ -145,4 +151,4 @@ module _ {tb : Table} {asks : List Ask} {unplaced repeats b runs bound set : ℕ
         pub left_back : (back : List Ask) (a : Ask) → a ≡ get_or asks i a → PutBack at a left back → back ≡ level
         left_back back a read p =
             back_as_was set t.packed t.whole i asked at left back r placed o
-            (subst (λ x. PutBack at x left back) (read_is asks a asked read) p)
+            (subst (λ x. PutBack at x left back) (read_is asks a nothing asked read) p)

@@ -1,5 +1,5 @@
-// The rank search: the ranks filled from n down to 1, each by the unplaced row that blocks with the least at its shortest
-// passing length, the earliest among equals; until every row is placed or no row has a passing length.
+// The rank search: the ranks filled from n down to 1, each by the unplaced row that blocks with the least at its
+// shortest passing length, the earliest among equals; until every row is placed or no row has a passing length.
 #![tactic(auto)]
 
 ghost use Rattle.std.specs.Prelude.{◌≡◌, ◌+◌, ◌*◌, ◌≤◌, ◌<◌};
@@ -29,8 +29,8 @@ struct Candidate {
     response: u32,
 }
 
-// The longest length worth a try, with which a row blocks with less than the best so far; none where its middle region
-// alone blocks with as much. A row that cannot beat the best cannot take the rank.
+// The longest length worth a try, with which a row blocks with less than the best so far; none where it blocks with as
+// much even with length 1. A row that cannot beat the best cannot take the rank.
 fn cap_of(row: Row, best: Option<Candidate>) -> Option<u32>
     requires { EndsBeforeRun row }
     ensures { WorthIn row best result }
@@ -39,7 +39,7 @@ fn cap_of(row: Row, best: Option<Candidate>) -> Option<u32>
     let Some(best) = best else {
         return Some(cap);
     };
-    if best.longer <= row.region.max(1) {
+    if best.longer <= tables::longer(row, 1) {
         return None;
     }
     Some(cap.min(best.longer - 1))
@@ -64,8 +64,10 @@ pub fn fill(tasks: Tasks, asks: &[Ask], busy: u32) -> Result<Filled, u32>
         × Asks (table_in tasks.rows tasks.n) asks.now }
     ensures { Ended (table_in tasks.rows tasks.n) result }
 {
-    let mut plan = [0u32; PLAN_WIDTH * MOST_ROWS];
-    let mut times = [0u32; MOST_ROWS];
+    let mut filled = Filled {
+        plan: [0; PLAN_WIDTH * MOST_ROWS],
+        times: [0; MOST_ROWS],
+    };
     let mut level = [Ask::NOTHING; MOST_ROWS];
     let again = sides::again_of(asks, busy);
     let mut unplaced = marks::whole(tasks.n as u32);
@@ -152,12 +154,12 @@ pub fn fill(tasks: Tasks, asks: &[Ask], busy: u32) -> Result<Filled, u32>
         };
         let placed = taken.row as usize;
         let at = PLAN_WIDTH * placed;
-        plan[at] = rank;
-        plan[at + 1] = taken.length;
-        times[placed] = taken.response;
+        filled.plan[at] = rank;
+        filled.plan[at + 1] = taken.length;
+        filled.times[placed] = taken.response;
         runs -= asks[placed].run as u32;
         blocking = blocking.max(taken.longer - 1);
         unplaced = marks::less(unplaced, taken.row);
     }
-    Ok(Filled { plan, times })
+    Ok(filled)
 }

@@ -39,7 +39,7 @@ module _ {asks : List Ask} {P : ℕ → Bool} {level : List Ask} {m : ℕ} (w : 
     front_many whole = length-take-le m level (omega (arith, w.few))
 
     front : (f : Ask → ℕ) → sum (λ p. f (row (take m level) p)) m ≡ sum (λ p. f (row level p)) m
-    front f = over_same (take m level) level m (λ p h. get_or-take m level p nothing h) (λ _ a. f a)
+    front f = over_same nothing (take m level) level m (λ p h. get_or-take m level p nothing h) (λ _ a. f a)
 
     pub held_front : length level ≡ most_rows →
         let l = take m level in Holding asks P l (length l)

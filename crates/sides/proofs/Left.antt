@@ -53,7 +53,7 @@ module _ {asks : List Ask} {P : ℕ → Bool} {before level : List Ask} {m : ℕ
 
   pub place_inside : p < m
   unfolding count
-  place_inside = omega (arith, w.same (λ _ _. 1), over_one level m, count_lt P i (length asks) l e)
+  place_inside = omega (arith, w.same (λ _ _. 1), over_one nothing level m, count_lt P i (length asks) l e)
 
   -- it is row i that stands at its place
   at : (g : Ask → ℕ) → g (row level p) ≡ g (row asks i)

@@ -7,7 +7,7 @@ use native.Mathlib.Omega.{arith}
 use native.Mathlib.Nat.{zero-add}
 use native.Mathlib.Numerals.{add-one}
 use lib.Dec.{eqb, ltb}
-use lib.ListN.{length, set, length-set}
+use lib.ListN.{length, set, get_or, length-set}
 use lib.Seq.{get_or-set_same, get_or-set_other}
 use borrow.Author.Tests.{ne_eqb, lt-ltb}
 use Rattle.counting.specs.Sum.{given, sum, count, without}
@@ -18,67 +18,69 @@ use Rattle.marks.specs.inside.Marks.{marked, Next, Less}
 use Rattle.marks.proofs.Marks.{sum_none_marked}
 use Rattle.tables.specs.Table.{most_rows}
 use Rattle.sides.specs.declared.ask.Ask.{Ask}
-use Rattle.sides.specs.inside.Asks.{nothing, row}
-use Rattle.sides.specs.inside.Level.{Packed}
+use Rattle.sides.specs.inside.Asks.{row}
+use Rattle.sides.specs.inside.Level.{Picked, Packed}
 
--- what is summed over the first m rows of a level, by place and row
-abbrev pub over : List Ask → ℕ → (ℕ → Ask → ℕ) → ℕ
-over level m f = sum (λ p. f p (row level p)) m
+module _ {A : Type 0} (none : A) where
+  -- what is summed over the first m rows of a level, by place and row
+  abbrev pub over : List A → ℕ → (ℕ → A → ℕ) → ℕ
+  over level m f = sum (λ p. f p (get_or level p none)) m
 
--- and over the rows of the asks at which P passes, where their places begin at m
-abbrev pub picked : List Ask → (ℕ → Bool) → ℕ → (ℕ → Ask → ℕ) → ℕ
-picked asks P m f = sum (λ j. given (P j) (f (m + count P j) (row asks j))) (length asks)
+  -- and over the rows of the asks at which P passes, where their places begin at m
+  abbrev pub picked : List A → (ℕ → Bool) → ℕ → (ℕ → A → ℕ) → ℕ
+  picked asks P m f = sum (λ j. given (P j) (f (m + count P j) (get_or asks j none))) (length asks)
 
-picked_first : (asks : List Ask) (P : ℕ → Bool) (f : ℕ → Ask → ℕ) →
-    picked asks P 0 f ≡ sum (λ j. given (P j) (f (count P j) (row asks j))) (length asks)
-picked_first asks P f =
-    sum_ext _ _ (length asks)
-    (λ j _. ap (λ x. given (P j) (f x (row asks j))) (zero-add (count P j)))
+  picked_first : (asks : List A) (P : ℕ → Bool) (f : ℕ → A → ℕ) →
+      picked asks P 0 f ≡ sum (λ j. given (P j) (f (count P j) (get_or asks j none))) (length asks)
+  picked_first asks P f =
+      sum_ext _ _ (length asks)
+      (λ j _. ap (λ x. given (P j) (f x (get_or asks j none))) (zero-add (count P j)))
 
-over_more : (level : List Ask) (m : ℕ) (f : ℕ → Ask → ℕ) →
-    over level (m + 1) f ≡ over level m f + f m (row level m)
-unfolding sum
-over_more level m f = rw (add-one m)
+  over_more : (level : List A) (m : ℕ) (f : ℕ → A → ℕ) →
+      over level (m + 1) f ≡ over level m f + f m (get_or level m none)
+  unfolding sum
+  over_more level m f = rw (add-one m)
 
-pub over_same : (l k : List Ask) (m : ℕ) → ((p : ℕ) → p < m → row l p ≡ row k p) →
-    (f : ℕ → Ask → ℕ) → over l m f ≡ over k m f
-over_same l k m same f = sum_ext _ _ m (λ p h. rw (same p h))
+  pub over_same : (l k : List A) (m : ℕ) → ((p : ℕ) → p < m → get_or l p none ≡ get_or k p none) →
+      (f : ℕ → A → ℕ) → over l m f ≡ over k m f
+  over_same l k m same f = sum_ext _ _ m (λ p h. rw (same p h))
 
--- how many are summed over
-abbrev one : ℕ → Ask → ℕ
-one p a = 1
+  -- how many are summed over
+  abbrev one : ℕ → A → ℕ
+  one p a = 1
 
-pub over_one : (level : List Ask) (m : ℕ) → over level m one ≡ m
-unfolding count
-over_one level m = count_all m
-
-picked_few : (asks : List Ask) (P : ℕ → Bool) (m : ℕ) → picked asks P m one ≤ length asks
-unfolding count
-picked_few asks P m = count_le P (length asks)
+  pub over_one : (level : List A) (m : ℕ) → over level m one ≡ m
+  unfolding count
+  over_one level m = count_all m
 
 -- the rows of rest are left, the others of the set are packed, and behind them the level is as before
-pub record Packing (asks : List Ask) (set : ℕ) (before level : List Ask) (m rest : ℕ) : Type 0 where
+pub record Packing {A : Type 0} (asks : List A) (set : ℕ) (before level : List A) (m rest : ℕ) : Type 0 where
   pub whole : length level ≡ most_rows
-  pub total : (f : ℕ → Ask → ℕ) → over level m f + picked asks (marked rest) m f ≡ picked asks (marked set) 0 f
   pub inside : (j : ℕ) → marked rest j ≡ true → j < length asks
-  pub behind : (k : ℕ) → m ≤ k → row level k ≡ row before k
+  pub many : m + count (marked rest) (length asks) ≡ count (marked set) (length asks)
+  pub total : (none : A) (f : ℕ → A → ℕ) →
+      over none level m f + picked none asks (marked rest) m f ≡ picked none asks (marked set) 0 f
+  pub behind : (none : A) (k : ℕ) → m ≤ k → get_or level k none ≡ get_or before k none
 
-module _ (asks : List Ask) (all : ℕ) (few : length asks ≤ most_rows) where
-  pub packing_none : (level : List Ask) → length level ≡ most_rows →
+module _ {A : Type 0} (asks : List A) (all : ℕ) (few : length asks ≤ most_rows) where
+  pub packing_none : (level : List A) → length level ≡ most_rows →
       ((j : ℕ) → marked all j ≡ true → j < length asks) → Packing asks all level level 0 all
   unfolding sum
   packing_none level whole inside =
-      record { whole = whole; total = λ f. omega arith; inside = inside; behind = λ k _. refl }
+      record {
+        whole = whole;
+        inside = inside;
+        many = zero-add _;
+        total = λ none f. omega arith;
+        behind = λ none k _. refl;
+      }
 
-  module _ {before level : List Ask} {m rest : ℕ} (w : Packing asks all before level m rest) where
+  module _ {before level : List A} {m rest : ℕ} (w : Packing asks all before level m rest) where
     pub packing_few : m ≤ most_rows
-    packing_few = omega (arith, w.total one, over_one level m, picked_few asks (marked all) 0)
+    packing_few = omega (arith, w.many, count_le (marked all) (length asks))
 
     -- the row whose mark is next
     module _ {j : ℕ} (n : Next rest j) where
-      abbrev a : Ask
-      a = row asks j
-
       abbrev Q : ℕ → Bool
       Q = marked rest
 
@@ -88,7 +90,11 @@ module _ (asks : List Ask) (all : ℕ) (few : length asks ≤ most_rows) where
           count_none Q j
           (λ k l. by_bool (Q k) (λ e. absurd (omega (arith, n.first.least k (omega arith) e))) (λ e. e))
 
-      -- and the others move up by a place
+      -- and the others are one fewer, and move up by a place
+      fewer : count Q (length asks) ≡ count (without Q j) (length asks) + 1
+      unfolding count
+      fewer = omega (arith, sum_without Q j (λ _. 1) (length asks) (w.inside j n.first.holds) n.first.holds)
+
       next : (k : ℕ) → without Q j k ≡ true → m + 1 + count (without Q j) k ≡ m + count Q k
       next k e =
           without_elim Q j k e
@@ -96,64 +102,74 @@ module _ (asks : List Ask) (all : ℕ) (few : length asks ≤ most_rows) where
           let le = n.first.least k (omega arith) q in
           omega (arith, count_without Q j k (by_eq k j (λ z. absurd (ne z)) (λ z. omega arith)) n.first.holds))
 
-      taken : (f : ℕ → Ask → ℕ) → f m a + picked asks (without Q j) (m + 1) f ≡ picked asks Q m f
-      taken f =
-          let F : ℕ → ℕ = λ k. f (m + count Q k) (row asks k) in
-          let here : F j ≡ f m a = let z : m + count Q j ≡ m = omega (arith, first) in ap (λ x. f x a) z in
-          let others = sum_ext
-          (λ k. given (without Q j k) (f (m + 1 + count (without Q j) k) (row asks k)))
-          (λ k. given (without Q j k) (F k)) (length asks)
-          (λ k _.
-          by_bool (without Q j k)
-          (λ e. rw (e, next k e))
-          (λ e. rw e)) in
-          omega (arith, sum_without Q j F (length asks) (w.inside j n.first.holds) n.first.holds)
-
       -- there is room for it
-      pub packing_room : m < most_rows
-      packing_room = omega (arith, w.total one, over_one level m, picked_few asks (marked all) 0, taken one)
+      pub packing_fits : m < length level
+      packing_fits = omega (arith, w.whole, w.many, fewer, count_le (marked all) (length asks))
 
-      pub packing_more : {r : ℕ} → Less rest j r → Packing asks all before (set level m a) (m + 1) r
-      packing_more {r} l =
+      module _ (none : A) where
+        abbrev a : A
+        a = get_or asks j none
+
+        taken : (f : ℕ → A → ℕ) → f m a + picked none asks (without Q j) (m + 1) f ≡ picked none asks Q m f
+        taken f =
+            let F : ℕ → ℕ = λ k. f (m + count Q k) (get_or asks k none) in
+            let here : F j ≡ f m a = let z : m + count Q j ≡ m = omega (arith, first) in ap (λ x. f x a) z in
+            let others = sum_ext
+            (λ k. given (without Q j k) (f (m + 1 + count (without Q j) k) (get_or asks k none)))
+            (λ k. given (without Q j k) (F k)) (length asks)
+            (λ k _.
+            by_bool (without Q j k)
+            (λ e. rw (e, next k e))
+            (λ e. rw e)) in
+            omega (arith, sum_without Q j F (length asks) (w.inside j n.first.holds) n.first.holds)
+
+        total_more : (f : ℕ → A → ℕ) → over none (set level m a) (m + 1) f + picked none asks (without Q j) (m + 1) f
+            ≡ picked none asks (marked all) 0 f
+        total_more f =
+            let old = over_same none (set level m a) level m
+            (λ p q. get_or-set_other level m p a none (λ e. omega arith)) f in
+            let new : f m (get_or (set level m a) m none) ≡ f m a =
+            ap (f m) (get_or-set_same level m a none packing_fits) in
+            omega (arith, w.total none f, over_more none (set level m a) m f, taken f)
+
+      pub packing_more : {r : ℕ} (x : A) → ((none : A) → x ≡ get_or asks j none) → Less rest j r →
+          Packing asks all before (set level m x) (m + 1) r
+      packing_more {r} x is l =
           record {
-            whole = length-set level m a ∙ w.whole;
+            whole = length-set level m x ∙ w.whole;
+            inside = λ k e. without_elim Q j k (ap (λ P. P k) (sym l.marks) ∙ e) (λ _ y. w.inside k y);
+            many = omega (arith, w.many, fewer, ap (λ (P : ℕ → Bool). count P (length asks)) l.marks);
             total =
-                λ f.
-                let old = over_same (set level m a) level m
-                (λ p q. get_or-set_other level m p a nothing (λ e. omega arith)) f in
-                let new : f m (row (set level m a) m) ≡ f m a =
-                ap (f m) (get_or-set_same level m a nothing (omega (arith, w.whole, packing_room))) in
+                λ none f.
                 omega (
                   arith,
-                  w.total f,
-                  over_more (set level m a) m f,
-                  taken f,
-                  ap (λ (P : ℕ → Bool). picked asks P (m + 1) f) l.marks,
+                  total_more none f,
+                  ap (λ y. over none (set level m y) (m + 1) f) (is none),
+                  ap (λ (P : ℕ → Bool). picked none asks P (m + 1) f) l.marks,
                 );
-            inside = λ k e. without_elim Q j k (ap (λ P. P k) (sym l.marks) ∙ e) (λ _ x. w.inside k x);
-            behind = λ k g. get_or-set_other level m k a nothing (λ e. omega arith) ∙ w.behind k (omega arith);
+            behind = λ none k g. get_or-set_other level m k x none (λ e. omega arith) ∙ w.behind none k (omega arith);
           }
 
-    pub packing_all : rest ≡ 0 → Packed asks (marked all) before level m
-    packing_all e =
+    pub packing_all : rest ≡ 0 → (none : A) → Picked none asks (marked all) before level m
+    packing_all e none =
         record {
           few = packing_few;
           same =
               λ f. omega (
                 arith,
-                w.total f,
-                picked_first asks (marked all) f,
-                ap (λ r. picked asks (marked r) m f) e,
-                sum_none_marked (λ j. f (m + count (marked 0) j) (row asks j)) (length asks),
+                w.total none f,
+                picked_first none asks (marked all) f,
+                ap (λ r. picked none asks (marked r) m f) e,
+                sum_none_marked (λ j. f (m + count (marked 0) j) (get_or asks j none)) (length asks),
               );
-          rest = w.behind;
+          rest = w.behind none;
         }
 
 -- as many rows are packed as the set has
-pub packed_size : {asks : List Ask} {before level : List Ask} {m : ℕ} (all : ℕ) → Packed asks (marked all) before level m →
+pub packed_size : {A : Type 0} {none : A} {asks : List A} {before level : List A} {m : ℕ} (all : ℕ) → Picked none asks (marked all) before level m →
     length asks ≤ most_rows → ((j : ℕ) → marked all j ≡ true → j < length asks) → count (marked all) most_rows ≡ m
 unfolding count
-packed_size {asks} {before} {level} {m} all x few inside =
+packed_size {A} {none} {asks} {before} {level} {m} all x few inside =
     let n = length asks in
     sum_ext (λ j. given (marked all j) 1) (λ j. given (ltb j n) (given (marked all j) 1)) most_rows
     (λ j _.
@@ -161,8 +177,8 @@ packed_size {asks} {before} {level} {m} all x few inside =
     (λ e. rw (e, lt-ltb j n (inside j e)))
     (λ e. rw e (by_bool (ltb j n) (λ o. rw o) (λ o. rw o))))
     ∙ sum_front (λ j. given (marked all j) 1) n most_rows few
-    ∙ sym (x.same one)
-    ∙ over_one level m
+    ∙ sym (x.same (λ _ _. 1))
+    ∙ over_one none level m
 
 -- what stands at place p of a sum by places
 at_place : (h : ℕ → ℕ) (p m : ℕ) → p < m → sum (λ q. given (eqb p q) (h q)) m ≡ h p

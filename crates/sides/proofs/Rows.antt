@@ -14,7 +14,7 @@ use Rattle.marks.proofs.Marks.{sum_head}
 use Rattle.tables.specs.Table.{most}
 use Rattle.sides.specs.declared.ask.Ask.{Ask}
 use Rattle.sides.specs.inside.Inverse.{inverse_of}
-use Rattle.sides.specs.inside.Asks.{nothing, row}
+use Rattle.sides.specs.inside.Asks.{row}
 
 pub over_rows : (f : Ask → ℕ) (level : List Ask) → sum_by f level ≡ sum (λ p. f (row level p)) (length level)
 unfolding sum
@@ -25,8 +25,9 @@ over_rows f (a ∷ level) =
     ∙ omega (arith, sum_head (λ p. f (row (a ∷ level) p)) (length level))
 
 -- what is read at a place is what stands there
-pub read_is : (asks : List Ask) {j : ℕ} (a : Ask) → j < length asks → a ≡ get_or asks j a → a ≡ row asks j
-read_is asks {j} a l e = e ∙ get_or_default asks j a nothing l
+pub read_is : {A : Type 0} (items : List A) {j : ℕ} (a none : A) → j < length items → a ≡ get_or items j a →
+    a ≡ get_or items j none
+read_is items {j} a none l e = e ∙ get_or_default items j a none l
 
 made : (r i : ℕ) → r ≤ most → i ≤ inverse_of 1 → Ask
 made r i h g = record { run = r; inverse = i; small_run = h; small_inverse = g }

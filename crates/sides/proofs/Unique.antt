@@ -37,7 +37,7 @@ module _ (asks : List Ask) (P : ℕ → Bool) (before : List Ask) where
   pub packed_unique : (l k : List Ask) (m r : ℕ) → length l ≡ length k → Packed asks P before l m →
       Packed asks P before k r → (m ≡ r) × (l ≡ k)
   packed_unique l k m r long x y =
-      let size : m ≡ r = omega (arith, x.same (λ _ _. 1), y.same (λ _ _. 1), over_one l m, over_one k r) in
+      let size : m ≡ r = omega (arith, x.same (λ _ _. 1), y.same (λ _ _. 1), over_one nothing l m, over_one nothing k r) in
       let at : (g : Ask → ℕ) (p : ℕ) → p < m → g (row l p) ≡ g (row k p) =
       λ g p h. packed_row x p h g ∙ sym (packed_row y p (omega arith) g) in (
         size,

@@ -11,7 +11,8 @@ ghost use Rattle.tables.specs.Table.{most, most_rows};
 ghost use Rattle.tables.specs.inside.Rows.{table_in};
 ghost use Rattle.test.specs.Test.{horizon};
 ghost use Rattle.sides.specs.inside.Asks.{repeated, AsksFront};
-ghost use Rattle.sides.specs.inside.Level.{runs_of, later, busy_of, active_of, start_of, Packed, LeftOut, PutBack};
+ghost use Rattle.sides.specs.inside.Level.{Picked, Vacated, PutBack};
+ghost use Rattle.sides.specs.inside.Level.{runs_of, later, busy_of, active_of, start_of};
 
 pub use ask::Ask;
 use tables::{MOST_ROWS, Row, Tasks};
@@ -28,10 +29,11 @@ pub fn asks_of(tasks: &Tasks) -> [Ask; MOST_ROWS]
 }
 
 // What the rows of the set ask with, packed at the front of the level; and how many they are.
-pub fn level_of(asks: &[Ask], set: u32, level: &mut [Ask]) -> usize
+pub fn level_of<T: Copy>(asks: &[T], set: u32, level: &mut [T]) -> usize
     requires { (length asks.now ≤ most_rows) × ((j : ℕ) → marked set j ≡ true → j < length asks.now)
         × (length level.old ≡ most_rows) }
-    ensures { Packed asks.now (marked set) level.old level.new result }
+    ensures few { result ≤ most_rows }
+    ensures packed { (none : T) → Picked none asks.now (marked set) level.old level.new result }
 {
     for (m, j) in marks::rows(set).enumerate() {
         level[m] = asks[j as usize];
@@ -56,9 +58,10 @@ pub fn again_of(asks: &[Ask], t: u32) -> u32
 
 // A level of m rows without the one at a place, which the last one takes, where there is such a place; and how many
 // are left.
-pub fn leave_out(level: &mut [Ask], m: usize, at: Option<usize>) -> usize
+pub fn leave_out<T: Copy>(level: &mut [T], m: usize, at: Option<usize>) -> usize
     requires { (m ≤ most_rows) × (length level.old ≡ most_rows) × IfSome at (λ p. p < m) }
-    ensures { LeftOut at level.old m level.new result }
+    ensures fewer { result ≤ m }
+    ensures left { (none : T) → Vacated none at level.old m level.new result }
 {
     match at {
         Some(p) => {
@@ -70,7 +73,7 @@ pub fn leave_out(level: &mut [Ask], m: usize, at: Option<usize>) -> usize
 }
 
 // The level with what a row asks with at its place again, where there is one.
-pub fn put_back(level: &mut [Ask], at: Option<usize>, ask: Ask)
+pub fn put_back<T: Copy>(level: &mut [T], at: Option<usize>, ask: T)
     requires { (length level.old ≡ most_rows) × IfSome at (λ p. p < most_rows) }
     ensures { PutBack at ask level.old level.new }
 {

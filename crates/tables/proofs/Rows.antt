@@ -1,13 +1,13 @@
 -- Laws of the rows in an array: stores below a row, and the array that holds a slice's table.
-use Prim.Native.Nat.{ℕ, zero, suc, ◌+◌, ◌*◌, ◌<◌, ◌≤◌}
+use Prim.Native.Nat.{ℕ, zero, suc, ◌+◌, ◌-◌, ◌*◌, ◌<◌, ◌≤◌}
 use mathlib.Core.Path.{◌≡◌, refl, sym, ap, ◌∙◌}
 use mathlib.Core.List.{List}
 use native.Mathlib.Omega.{arith}
 use lib.ListN.{length, get_or, set, take, drop, replicate, length-replicate, get_or-replicate, get_or-eq_default}
-use lib.Seq.{get_or-set_same, get_or-set_other, get_or-take, get_or-drop, drop-drop}
+use lib.Seq.{get_or-set_same, get_or-set_other, length-take-le, get_or-take, get_or-drop, drop-drop}
 use Rattle.std.specs.Simd.{first_chunks}
 use Rattle.counting.proofs.Cases.{by_le, by_eq}
-use Rattle.tables.specs.Table.{row_width, table_of}
+use Rattle.tables.specs.Table.{Sound, row_width, table_of}
 use Rattle.tables.specs.inside.Rows.{no, row_at, table_in}
 use Rattle.tables.specs.declared.task.Row.{Row}
 
@@ -91,3 +91,36 @@ table_rows rows xs n whole h =
 
     at : (f : Row → ℕ) (i : ℕ) → (n ≤ i → f no ≡ f (row_at xs i)) → f (get_or rows i no) ≡ f (row_at xs i)
     at f i past = by_le n i (λ g. ap f (h.past i g) ∙ past g) (λ g. ap f (h.below i g))
+
+-- the first n rows of such an array, as a slice, have that table too
+module _ (rows : List Row) (xs : List ℕ) (n : ℕ) (sound : Sound (table_in rows n)) (whole : length xs ≡ row_width * n)
+    (same : table_in rows n ≡ table_of xs)
+  where
+    room : n ≤ length rows
+    room =
+        by_le n (length rows)
+        (λ h. h)
+        (λ h.
+        let none = ap (λ r. r.c) (let past : length rows ≤ n - 1 = omega arith in get_or-eq_default rows no past) in
+        absurd (omega (arith, (sound.row (n - 1) (omega arith)).C.low)))
+
+    row_same : (k : ℕ) → get_or rows k no ≡ row_at xs k
+    row_same k x =
+        record {
+          c = (same x).C k;
+          d = (same x).D k;
+          t = (same x).T k;
+          start = (same x).S k;
+          region = (same x).M k;
+        }
+
+    pub table_front : table_in (take n rows) (length (take n rows)) ≡ table_in rows n
+    table_front =
+        let long = length-take-le n rows room in
+        ap (table_in (take n rows)) long
+        ∙ table_rows (take n rows) xs n whole
+        (record {
+          below = λ k b. get_or-take n rows k no b ∙ row_same k;
+          past = λ k g. get_or-eq_default (take n rows) no (omega arith);
+        })
+        ∙ sym same

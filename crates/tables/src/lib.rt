@@ -8,7 +8,7 @@ mod task;
 
 pub use answer::{Answer, Refusal, Said};
 pub use plan_check::check_plan;
-pub use table_checks::check_table;
+pub use table_checks::{check_table, rows_of};
 pub use task::{Row, Tasks, cap, longer};
 
 // How many numbers a row of a task table has, a row of a plan, a row of a planned table, a row of an output of times,

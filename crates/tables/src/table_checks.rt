@@ -65,7 +65,7 @@ fn first_fault(table: &[u32]) -> Option<usize>
 }
 
 // The rows of a task table; past its n rows stand zeros.
-fn rows_of(table: &[u32]) -> [Row; MOST_ROWS]
+pub fn rows_of(table: &[u32]) -> [Row; MOST_ROWS]
     requires whole { length table.now ≡ row_width * (table_of table.now).n }
     requires few { (table_of table.now).n ≤ most_rows }
     ensures { table_in result (table_of table.now).n ≡ table_of table.now }

@@ -1,5 +1,6 @@
 -- `check_jobs` meets its contract: no job before k is at fault, and what the walk keeps of them shows a fault of job k.
 use native.Mathlib.Omega.{arith}
+use lib.ListN.{length}
 use mathlib.Core.Path.{refl}
 use mathlib.Core.Logic.{inl, inr}
 use Rattle.tables.specs.Jobs.{jobs_of}
@@ -19,7 +20,7 @@ pub returns-then-not-alone : goal.returns-then-not-alone
 returns-then-not-alone c =
     let js = c.args.jobs.now in
     let walked = c.loop-k.invariant.1 in
-    let fault : AtFault (table_in c.args.tasks.now.rows c.args.tasks.now.n) (jobs_of js) c.loop-k.k =
+    let fault : AtFault (table_in c.args.rows.now (length c.args.rows.now)) (jobs_of js) c.loop-k.k =
     elim c.then-not-alone.branch [
       | then-not-alone-via-then-not-alone w ↦
           let no = says_no c.keeps_alone-alone.result w.if-not-alone.true c.keeps_alone-alone.ensures in
@@ -39,5 +40,5 @@ loop-k-preserved c =
     let alone = says_yes c.keeps_alone-alone.result c.if-not-alone.false c.keeps_alone-alone.ensures in (
       omega arith,
       walked_on c.loop-k.invariant.1 alone c.if-release-last.false c.if-release-earliest.false
-          (omega (arith, c.args.tasks.now.sound.few, alone.row)),
+          (omega (arith, c.requires, alone.row)),
     )

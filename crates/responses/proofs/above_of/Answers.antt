@@ -1,20 +1,14 @@
 -- `above_of` meets its contract: the set marks the rows passed that are of higher rank.
-use Rattle.std.proofs.Common.{◌≡◌, arith, lt-ltb, le-ltb}
-use Rattle.marks.proofs.Where.{where_none, where_apart, where_more, where_same}
+use Rattle.std.proofs.Common.{arith, lt-ltb, le-ltb}
+use Rattle.marks.proofs.Where.{where_none, where_more, where_same}
 use Rattle.tables.specs.Plan.{plan_of}
 use Rattle.test.specs.Test.{above}
-use Rattle.responses.specs.inside.Asked.{plan_rows}
 use Rattle.responses.proofs.Pairs.{rank_in}
 use Rattle.responses.proofs.above_of.Goals as goal
 use Rattle.responses.proofs.above_of.Goals.{then-other-rank, else-other-rank}
 
 pub loop-i-init : goal.loop-i-init
 loop-i-init c = where_none (above (plan_of c.args.plan.now) c.args.rank)
-
-pub more-set-requires : goal.more-set-requires
-more-set-requires c =
-    let P = above (plan_of c.args.plan.now) c.args.rank in
-    (omega (arith, c.as_chunks.ensures.front_len), where_apart P _ _ c.loop-i.invariant)
 
 pub loop-i-preserved : goal.loop-i-preserved
 loop-i-preserved c =
@@ -29,8 +23,3 @@ loop-i-preserved c =
           let lower = le-ltb _ c.args.rank (omega (arith, e, w.if-other-rank.false)) in
           rw w.set-is (where_same P _ _ c.loop-i.invariant lower)
     ]
-
-pub returns : goal.returns
-returns c =
-    let e : c.loop-i.i ≡ plan_rows c.args.plan.now = omega (arith, c.as_chunks.ensures.front_len) in
-    rw e at c.loop-i.invariant

@@ -23,8 +23,3 @@ loop-i-preserved c =
     c.longer.ensures ∙ sym (longer_in_lem rows c.args.tasks.now.n i _)
     ∙ ap (longer tb i) (len_in c.args.plan.now front.front i (omega (arith, front.front_len))) in
     column_more (λ j b. b ≡ blocks tb (plan_of c.args.plan.now) j) c.loop-i.invariant fits here
-
-pub returns : goal.returns
-returns c =
-    let e : c.loop-i.i ≡ c.args.tasks.now.n = omega (arith, c.as_chunks.ensures.front_len) in
-    rw e at c.loop-i.invariant

@@ -1,5 +1,6 @@
 -- `response` meets its contract: the largest over the jobs passed, each start no lower than the one before plus C.
 use Rattle.std.proofs.Common.{suc, ◌+◌, arith, ◌∙◌, add-one}
+use Rattle.sides.specs.inside.Asks.{nothing}
 use Rattle.responses.proofs.Jobs.{jobs_few, next_low}
 use Rattle.responses.proofs.Largest.{passed_none, passed_more, passed_as}
 use Rattle.responses.proofs.Levels.{Levelled, level_asks, place_fits, first_is, period_within, jobs_are}
@@ -16,7 +17,7 @@ levelled c =
     record {
       more = c.more-with_own.ensures;
       before = c.args.level.now;
-      packed = c.level_of-all.ensures;
+      packed = c.level_of-all.ensures.packed nothing;
       whole = c.level_of-all.auto.level ∙ c.requires.1;
     }
 
@@ -30,17 +31,14 @@ ready c =
     record {
       more = c.more-with_own.ensures;
       before = c.args.level.now;
-      packed = c.level_of-all.ensures;
+      packed = c.level_of-all.ensures.packed nothing;
       whole = c.level_of-all.auto.level ∙ c.requires.1;
     } in
     record {
       first_is = first_is c.requires.0 v c.runs_of.ensures;
       jobs_are = jobs_are c.requires.0 v c.runs_of.ensures c.active_period-period.ensures c.round_up-jobs.ensures;
-      asking = above_asks c.requires.0 v _ _ _ c.place_of-at.ensures c.leave_out-higher.ensures;
+      asking = above_asks c.requires.0 v _ _ _ c.place_of-at.ensures (c.leave_out-higher.ensures.left nothing);
     }
-
-pub runs_of-requires : goal.runs_of-requires
-runs_of-requires c = (level_asks c.requires.0 (levelled (goal.at.runs_of-requires c).After-level_of-all)).few
 
 pub overflow_add-first : goal.overflow_add-first
 overflow_add-first c =

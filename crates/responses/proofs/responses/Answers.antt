@@ -50,8 +50,3 @@ loop-i-preserved c =
     let fits : c.loop-i.i < most_rows = omega (arith, inside s, rows s, c.requires.0.sound.few) in
     let here = response_here (placed s) (rw len at c.response.ensures) in
     (column_more R c.loop-i.invariant.0 fits here, c.response.auto.level ∙ c.loop-i.invariant.1)
-
-pub returns : goal.returns
-returns c =
-    let e : c.loop-i.i ≡ c.args.tasks.now.n = omega (arith, c.as_chunks.ensures.front_len, c.requires.0.whole) in
-    rw e at c.loop-i.invariant.0

@@ -1,5 +1,5 @@
 -- `fill` meets its contract: at each goal what is known is one law of Turn, Lengths, Trial, Seen, Runs or Going.
-use Prim.Native.Nat.{◌≤◌, ◌<◌, ◌+◌, ◌-◌}
+use Prim.Native.Nat.{ℕ, ◌≤◌, ◌<◌, ◌+◌, ◌-◌}
 use mathlib.Core.Path.{◌≡◌, refl, sym, ap, ◌∙◌}
 use mathlib.Core.Bool.{true}
 use native.Mathlib.Omega.{arith}
@@ -10,16 +10,19 @@ use Rattle.counting.specs.Sum.{without}
 use Rattle.marks.specs.inside.Marks.{marked}
 use Rattle.marks.proofs.Marks.{count_something}
 use Rattle.tables.specs.Table.{most_rows}
-use Rattle.tables.specs.Plan.{cap}
-use Rattle.tables.specs.inside.Rows.{no, table_in}
-use Rattle.tables.proofs.Plan.{cap_in_lem, cap_run, longer_in_lem, longer_ge}
+use Rattle.tables.specs.Plan.{cap, longer}
+use Rattle.tables.specs.declared.task.Tasks.{Tasks}
+use Rattle.tables.specs.inside.Rows.{no, longer_in}
+use Rattle.tables.proofs.Plan.{cap_in_lem, longer_in_lem, longer_ge}
 use Rattle.test.specs.Test.{upto, start_side}
 use Rattle.test.proofs.Load.{sound_positive}
 use Rattle.choice.specs.Choice.{Takes}
+use Rattle.sides.specs.inside.Asks.{nothing}
 use Rattle.sides.specs.inside.Level.{start_of}
 use Rattle.sides.proofs.Again.{again_asked}
 use Rattle.responses.proofs.Jobs.{Working, length_first, base_within}
-use Rattle.search.proofs.Turn.{Turn, Hand, turn_level, turn_period, turn_hand, hand_works, place_fits, place_in_room, left_level, left_back}
+use Rattle.search.proofs.Turn.{table, Turn, Hand, turn_level, turn_period, turn_hand, hand_works}
+use Rattle.search.proofs.Turn.{place_fits, place_in_room, left_level, left_back}
 use Rattle.search.proofs.Lengths.{Tested, Narrowed, narrowed_first, narrowed_fits, narrowed_misses}
 use Rattle.search.proofs.Trial.{trial_first, trial_within, trial_released, trial_last, trial_more, trial_side}
 use Rattle.search.proofs.Trial.{trial_again, trial_misses, trial_after, trial_next, trial_passes}
@@ -29,14 +32,14 @@ use Rattle.search.proofs.Runs.{runs_first, read_run, runs_enough, runs_more}
 use Rattle.search.proofs.Going.{going_first, going_room, going_stops, going_ends, going_more}
 use Rattle.search.proofs.fill.Goals as goal
 use Rattle.search.proofs.fill.Goals.{After-level_of-all, After-next-i, In-lengths, At-loop-s, Then-next-s, Joined-due-s}
-use Rattle.search.proofs.fill.Goals.{Joined-trial, In-Some-best}
+use Rattle.search.proofs.fill.Goals.{Joined-trial, After-put_back, In-Some-best}
 use Rattle.search.proofs.fill.Goals.{then-due-s, else-due-s+then-next-s+then-period-released}
 use Rattle.search.proofs.fill.Goals.{in-Some-trial, in_default-trial, else-rows-test}
 use Rattle.search.proofs.fill.Goals.{then-rows-test+in-Some+else-lengths-test+in-Some-passed+then-longer-eq1}
 
 -- ---- the rank that is filled
 turn : (c : After-level_of-all) →
-    Turn (table_in c.args.tasks.rows c.args.tasks.n) c.args.asks.now c.ranks.unplaced c.again_of-again.result c.ranks.blocking
+    Turn (table c.args.tasks) c.args.asks.now c.ranks.unplaced c.again_of-again.result c.ranks.blocking
     c.ranks.runs c.args.busy c.both-packed.result c.level_of-all.new.level c.level_of-all.result
     (c.ranks.blocking + c.ranks.runs)
 turn c =
@@ -52,13 +55,14 @@ turn c =
             busy = busy;
             within = c.requires.1;
             room = going_room _ (sound_positive _ sound) c.ranks.invariant.going;
-            repeat = again_asked c.again_of-again.result sound c.requires.2 busy.low c.requires.1 c.again_of-again.ensures;
+            repeat =
+                again_asked c.again_of-again.result sound c.requires.2 busy.low c.requires.1 c.again_of-again.ensures;
             first = c.ranks.invariant.runs;
           };
       both = c.both-packed.ensures;
       before = c.ranks.level;
-      packed = c.level_of-all.ensures;
-      whole = c.level_of-all.auto.level ∙ c.ranks.invariant.level;
+      packed = c.level_of-all.ensures.packed nothing;
+      whole = c.level_of-all.auto.level ∙ c.both-packed.array_long;
       first_is = refl;
     }
 
@@ -67,7 +71,6 @@ ranks-init c =
     let sound = c.args.tasks.sound in
     record {
       going = going_first _ sound c.whole-unplaced.result c.whole-unplaced.ensures;
-      level = refl;
       runs = c.runs_of-runs.ensures ∙ runs_first c.whole-unplaced.result sound c.requires.2 c.whole-unplaced.ensures;
     }
 
@@ -94,7 +97,7 @@ among : (c : After-next-i) → marked c.ranks.unplaced c.next-i.result ≡ true
 among c = c.rows.invariant.seen.among c.next-i.result c.next-i.ensures.first.holds
 
 hand : (c : After-next-i) →
-    Hand (table_in c.args.tasks.rows c.args.tasks.n) (without (marked c.ranks.unplaced) c.next-i.result) c.ranks.blocking
+    Hand (table c.args.tasks) (without (marked c.ranks.unplaced) c.next-i.result) c.ranks.blocking
     c.next-i.result (c.ranks.blocking + c.ranks.runs) c.active_period-period.result c.args.busy
 hand c = turn_hand c.rows.invariant.turn _ (among c) c.rows.invariant.period
 
@@ -111,7 +114,7 @@ lengths-init c =
       hand = hand g;
       above =
           left_level c.rows.invariant.turn _ (among g) c.place_of-at.result c.place_of-at.ensures
-          c.leave_out-above.new.level c.leave_out-above.result c.leave_out-above.ensures;
+          c.leave_out-above.new.level c.leave_out-above.result (c.leave_out-above.ensures.left nothing);
       top =
           rw (cap_in_lem c.args.tasks.rows c.args.tasks.n c.next-i.result)
           (worth_top (get_or c.args.tasks.rows c.next-i.result no) c.rows.best c.in-Some.cap c.in-Some.ensures);
@@ -121,7 +124,7 @@ lengths-init c =
 
 -- ---- the length that is tried
 works : (c : In-lengths) →
-    Working (table_in c.args.tasks.rows c.args.tasks.n) (without (marked c.ranks.unplaced) c.next-i.result) c.ranks.blocking
+    Working (table c.args.tasks) (without (marked c.ranks.unplaced) c.next-i.result) c.ranks.blocking
     c.next-i.result c.lengths.len c.active_period-period.result
 works c =
     let v = c.lengths.invariant in
@@ -159,7 +162,7 @@ base_of-base-requires c =
 -- ---- one value of a start's iteration
 side : (c : At-loop-s) →
     start_of (take c.leave_out-above.result c.leave_out-above.new.level) c.base_of-base.result c.loop-s.s
-    ≡ start_side (table_in c.args.tasks.rows c.args.tasks.n) (without (marked c.ranks.unplaced) c.next-i.result) c.ranks.blocking
+    ≡ start_side (table c.args.tasks) (without (marked c.ranks.unplaced) c.next-i.result) c.ranks.blocking
     c.next-i.result upto c.lengths.len c.jobs.k c.loop-s.s
 side c =
     trial_side c.jobs.invariant.working c.loop-s.invariant c.lengths.invariant.hand c.lengths.invariant.above
@@ -199,7 +202,7 @@ loop-s-preserved c =
 -- a value that repeats is the start
 repeats : (c : Then-next-s) →
     c.loop-s.s
-    ≡ start_side (table_in c.args.tasks.rows c.args.tasks.n) (without (marked c.ranks.unplaced) c.next-i.result) c.ranks.blocking
+    ≡ start_side (table c.args.tasks) (without (marked c.ranks.unplaced) c.next-i.result) c.ranks.blocking
     c.next-i.result upto c.lengths.len c.jobs.k c.loop-s.s
 repeats c = sym c.if-next-s.true ∙ c.start_side-next.ensures ∙ side (goal.at.overflow_add-start c).At-loop-s
 
@@ -232,7 +235,7 @@ jobs-preserved c =
 
 -- ---- where the job loop is left
 tested : (c : Joined-due-s) →
-    Tested (table_in c.args.tasks.rows c.args.tasks.n) (without (marked c.ranks.unplaced) c.next-i.result) c.ranks.blocking
+    Tested (table c.args.tasks) (without (marked c.ranks.unplaced) c.next-i.result) c.ranks.blocking
     c.next-i.result c.lengths.len c.if-due-s.trial
 tested c =
     let w = c.jobs.invariant.working in
@@ -248,47 +251,33 @@ tested c =
 
 -- ---- where a length has been tried
 narrower : (c : Joined-trial) →
-    Narrowed (table_in c.args.tasks.rows c.args.tasks.n) (without (marked c.ranks.unplaced) c.next-i.result) c.ranks.blocking
-    c.next-i.result c.in-Some.cap c.match-trial.low c.match-trial.high c.match-trial.passed
-    × (c.match-trial.high - c.match-trial.low < c.lengths.high - c.lengths.low)
-narrower c =
+    Tested (table c.args.tasks) (without (marked c.ranks.unplaced) c.next-i.result) c.ranks.blocking c.next-i.result
+    c.lengths.len c.if-due-s.trial →
+    Narrowed (table c.args.tasks) (without (marked c.ranks.unplaced) c.next-i.result) c.ranks.blocking c.next-i.result
+    c.in-Some.cap c.match-trial.low c.match-trial.high c.match-trial.passed
+narrower c t =
     let v = c.lengths.invariant in
     let b = v.between c.lengths-test.true in
-    let most : c.lengths.len ≤ cap (table_in c.args.tasks.rows c.args.tasks.n) c.next-i.result =
+    let w = c.jobs.invariant.working in
+    let most : c.lengths.len ≤ cap (table c.args.tasks) c.next-i.result =
     omega (arith, b.1, v.narrowed.within, top_le _ _ c.rows.best _ v.top) in
-    let t = tested (goal.at.next_length-len-requires c).Joined-due-s in
     elim c.match-trial.branch [
-      | in-Some-trial w ↦
-          rw (w.low-is, w.high-is, w.passed-is) (
-            narrowed_fits v.narrowed b.0 b.1 most c.jobs.invariant.working (rw w.in-Some-trial.is at t),
-            omega (arith, b.0, b.1),
-          )
-      | in_default-trial w ↦
-          rw (w.low-is, w.high-is, w.passed-is) (
-            narrowed_misses v.narrowed b.0 b.1 most c.jobs.invariant.working (rw w.in_default-trial.is at t),
-            omega (arith, b.0, b.1),
-          )
+      | in-Some-trial m ↦
+          rw (m.low-is, m.high-is, m.passed-is) (narrowed_fits v.narrowed b.0 b.1 most w (rw m.in-Some-trial.is at t))
+      | in_default-trial m ↦
+          rw (m.low-is, m.high-is, m.passed-is)
+          (narrowed_misses v.narrowed b.0 b.1 most w (rw m.in_default-trial.is at t))
     ]
-
-pub next_length-len-requires : goal.next_length-len-requires
-next_length-len-requires c =
-    let w = (narrower c).0 in
-    let h = c.lengths.invariant.hand in
-    let capped : c.in-Some.cap ≤ cap (table_in c.args.tasks.rows c.args.tasks.n) c.next-i.result =
-    top_le _ _ c.rows.best _ c.lengths.invariant.top in
-    (w.within, omega (arith, cap_run (table_in c.args.tasks.rows c.args.tasks.n) c.next-i.result capped, h.sound.C.high), w.order)
-
-pub lengths-smaller : goal.lengths-smaller
-lengths-smaller c = (narrower (goal.at.lengths-smaller c).Joined-trial).1
 
 pub lengths-preserved : goal.lengths-preserved
 lengths-preserved c =
+    let g = goal.at.lengths-preserved c in
     let v = c.lengths.invariant in
     record {
       hand = v.hand;
       above = v.above;
       top = v.top;
-      narrowed = (narrower (goal.at.lengths-preserved c).Joined-trial).0;
+      narrowed = narrower g.Joined-trial (tested g.Joined-due-s);
       between = c.next_length-len.ensures;
     }
 
@@ -300,31 +289,37 @@ put_back-requires c =
       place_in_room c.rows.invariant.turn _ m c.place_of-at.result c.place_of-at.ensures,
     )
 
+-- what the row in hand blocks with
+blocks_with : (tasks : Tasks) (i q : ℕ) {m : ℕ} → m ≡ longer_in (get_or tasks.rows i no) q → m ≡ longer (table tasks) i q
+blocks_with tasks i q e = e ∙ sym (longer_in_lem tasks.rows tasks.n i q)
+
+-- the level is that of the rank again
+restored : (c : After-put_back) → c.put_back.new.level ≡ c.rows.level
+restored c =
+    let v = c.rows.invariant in
+    left_back v.turn _ (v.seen.among c.next-i.result c.next-i.ensures.first.holds) c.place_of-at.result
+    c.place_of-at.ensures c.leave_out-above.new.level c.leave_out-above.result (c.leave_out-above.ensures.left nothing)
+    c.put_back.new.level c.index-asks-i.result c.index-asks-i.is c.put_back.ensures
+
 pub rows-preserved-else-longer-eq1 : goal.rows-preserved-else-longer-eq1
 rows-preserved-else-longer-eq1 c =
     let v = c.rows.invariant in
     let l = c.lengths.invariant in
-    let m = among (goal.at.rows-preserved-else-longer-eq1 c).After-next-i in
-    let back =
-    left_back v.turn _ m c.place_of-at.result c.place_of-at.ensures c.leave_out-above.new.level c.leave_out-above.result
-    c.leave_out-above.ensures c.put_back.new.level c.index-asks-i.result c.index-asks-i.is c.put_back.ensures in
+    let back = restored (goal.at.rows-preserved-else-longer-eq1 c).After-put_back in
     record {
       turn = rw back v.turn;
       period = rw back v.period;
       seen =
           seen_better c.rows.best v.seen c.next-i.ensures c.less-rest.ensures l.hand.row l.top l.narrowed
           c.lengths-test.false (rw c.in-Some-passed.is at l.narrowed.found)
-          (c.longer-longer.ensures ∙ sym (longer_in_lem c.args.tasks.rows c.args.tasks.n c.next-i.result c.lengths.high));
+          (blocks_with c.args.tasks c.next-i.result c.lengths.high c.longer-longer.ensures);
     }
 
 pub rows-preserved : goal.rows-preserved
 rows-preserved c =
     let v = c.rows.invariant in
     let l = c.lengths.invariant in
-    let m = among (goal.at.rows-preserved c).After-next-i in
-    let back =
-    left_back v.turn _ m c.place_of-at.result c.place_of-at.ensures c.leave_out-above.new.level c.leave_out-above.result
-    c.leave_out-above.ensures c.put_back.new.level c.index-asks-i.result c.index-asks-i.is c.put_back.ensures in
+    let back = restored (goal.at.rows-preserved c).After-put_back in
     record {
       turn = rw back v.turn;
       period = rw back v.period;
@@ -363,7 +358,7 @@ returns-in_default-best c =
 
 -- ---- the row that takes the rank
 seen : (c : In-Some-best) →
-    Seen (table_in c.args.tasks.rows c.args.tasks.n) (marked c.ranks.unplaced) c.ranks.blocking (marked c.ranks.unplaced)
+    Seen (table c.args.tasks) (marked c.ranks.unplaced) c.ranks.blocking (marked c.ranks.unplaced)
     (Some c.in-Some-best.taken) 0
 seen c =
     elim c.rows-test.branch [
@@ -373,31 +368,18 @@ seen c =
           let l = w.lengths.invariant in
           rw (sym c.in-Some-best.is ∙ w.best-is)
           (seen_one w.if-longer-eq1.true
-          (seen_better c.rows.best c.rows.invariant.seen w.next-i.ensures w.less-rest.ensures l.hand.row l.top l.narrowed
-          w.lengths-test.false (rw w.in-Some-passed.is at l.narrowed.found)
-          (w.longer-longer.ensures ∙ sym (longer_in_lem c.args.tasks.rows c.args.tasks.n w.next-i.result w.lengths.high))))
+          (seen_better c.rows.best c.rows.invariant.seen w.next-i.ensures w.less-rest.ensures l.hand.row l.top
+          l.narrowed w.lengths-test.false (rw w.in-Some-passed.is at l.narrowed.found)
+          (blocks_with c.args.tasks w.next-i.result w.lengths.high w.longer-longer.ensures)))
     ]
 
 takes : (c : In-Some-best) →
-    Takes (table_in c.args.tasks.rows c.args.tasks.n) (marked c.ranks.unplaced) c.ranks.blocking (marked c.ranks.unplaced)
+    Takes (table c.args.tasks) (marked c.ranks.unplaced) c.ranks.blocking (marked c.ranks.unplaced)
     c.in-Some-best.taken.row c.in-Some-best.taken.length
 takes c = seen_all (seen c)
 
 row_inside : (c : In-Some-best) → c.in-Some-best.taken.row < most_rows
 row_inside c = omega (arith, (takes c).row, c.args.tasks.sound.few)
-
-pub bounds-plan-at : goal.bounds-plan-at
-bounds-plan-at c = omega (arith, row_inside (goal.at.bounds-plan-at c).In-Some-best)
-
-pub bounds-plan-at-in-ranks : goal.bounds-plan-at-in-ranks
-bounds-plan-at-in-ranks c = omega (arith, row_inside (goal.at.bounds-plan-at-in-ranks c).In-Some-best)
-
-pub bounds-times-placed : goal.bounds-times-placed
-bounds-times-placed c = omega (arith, row_inside (goal.at.bounds-times-placed c).In-Some-best)
-
-pub bounds-asks-placed : goal.bounds-asks-placed
-bounds-asks-placed c =
-    omega (arith, (takes (goal.at.bounds-asks-placed c).In-Some-best).row, c.requires.2.long)
 
 pub overflow_sub-runs : goal.overflow_sub-runs
 overflow_sub-runs c =
@@ -415,13 +397,8 @@ overflow_sub-taken c =
       arith,
       k.blocks_with,
       k.shortest.low,
-      longer_ge (table_in c.args.tasks.rows c.args.tasks.n) c.in-Some-best.taken.row c.in-Some-best.taken.length,
+      longer_ge (table c.args.tasks) c.in-Some-best.taken.row c.in-Some-best.taken.length,
     )
-
-pub less-unplaced-requires : goal.less-unplaced-requires
-less-unplaced-requires c =
-    let g = (goal.at.less-unplaced-requires c).In-Some-best in
-    (row_inside g, (takes g).try)
 
 pub ranks-preserved : goal.ranks-preserved
 ranks-preserved c =
@@ -431,14 +408,8 @@ ranks-preserved c =
     record {
       going =
           rw c.size-rank.ensures
-          (going_more _ pos c.ranks.invariant.going (row_inside g) (takes g) k.timed c.less-unplaced.ensures k.blocks_with
-          c.max-blocking.ensures);
-      level =
-          elim c.rows-test.branch [
-            | else-rows-test w ↦ rw w.level-is c.rows.invariant.turn.whole
-            | then-rows-test+in-Some+else-lengths-test+in-Some-passed+then-longer-eq1 w ↦
-                rw w.level-is (w.put_back.auto.level ∙ w.lengths.invariant.above.whole)
-          ];
+          (going_more _ pos c.ranks.invariant.going (row_inside g) (takes g) k.timed c.less-unplaced.ensures
+          k.blocks_with c.max-blocking.ensures);
       runs =
           ap (λ x. c.ranks.runs - x) (read_run c.index-asks-placed.result c.requires.2 k.row)
           ∙ runs_more pos c.ranks.unplaced c.ranks.invariant.runs k.row k.try c.less-unplaced.ensures;

@@ -5,7 +5,7 @@ use lib.Dec.{ltb}
 use lib.ListN.{length}
 use borrow.Author.Tests.{lt-ltb, le-ltb}
 use Rattle.marks.proofs.Where.{where_none, where_apart, where_more, where_same}
-use Rattle.sides.specs.inside.Asks.{repeated}
+use Rattle.sides.specs.inside.Asks.{nothing, repeated}
 use Rattle.sides.proofs.Rows.{read_is}
 use Rattle.sides.proofs.again_of.Goals as goal
 use Rattle.sides.proofs.again_of.Goals.{then-releases-gt0, else-releases-gt0}
@@ -20,7 +20,7 @@ pub loop-i-preserved : goal.loop-i-preserved
 loop-i-preserved c =
     let P = repeated c.args.asks.now c.args.t in
     let own : P c.loop-i.i ≡ ltb 0 c.releases.result =
-    let here = read_is c.args.asks.now c.index-asks-i.result c.loop-i-test.true c.index-asks-i.is in
+    let here = read_is c.args.asks.now c.index-asks-i.result nothing c.loop-i-test.true c.index-asks-i.is in
     rw (c.releases.ensures, ← here) in
     elim c.if-releases-gt0.branch [
       | then-releases-gt0 w ↦
