@@ -71,14 +71,6 @@ module _ (planned out : List ℕ) where
         refused = λ n. rw (none a n);
       }
 
-  -- and it is no longer than the buffer
-  pub front_within : {r : Result} → PrintAnswer planned out r → length r.out ≡ length out →
-      r.value ≤ length r.out
-  front_within {r} a e =
-      by_eq r.number 0
-      (λ z. let g = fit_given (fit_of_print a) z in omega arith)
-      (λ n. omega (arith, none a n))
-
 -- any two answers are equal
 room_in_place : (needed len : ℕ) → OnePlace (room_in needed len)
 room_in_place needed len a b h g = h.0 ∙ sym g.0

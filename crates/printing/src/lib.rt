@@ -2,45 +2,35 @@
 #![tactic(auto)]
 
 ghost use Rattle.std.specs.Prelude.{◌≡◌, [], ◌≤◌, length};
-ghost use Rattle.tables.specs.Planned.{planned_width};
-ghost use Rattle.tables.specs.Checks.{Rows};
 ghost use Rattle.tables.specs.Answer.{result_of};
 ghost use Rattle.decimal.specs.inside.Placed.{Put, Room, Writes};
 ghost use Rattle.printing.specs.Printed.{plan_line, row_line, plan_text, refused_line};
-ghost use Rattle.printing.specs.inside.Rows.{RowsIn};
 ghost use Rattle.printing.specs.Answers.{FitAnswer, PrintAnswer, PrintFront};
 
-use decimal::Written;
-use tables::{Answer, MOST_ROWS, PLANNED_WIDTH, Refusal};
+mod table;
 
-// The check 1 of a planned table: 1 to 32 rows of three numbers.
-fn check_rows(planned: &[u32]) -> Result<(), Refusal>
-    ensures { RowsIn planned.now result }
-{
-    let count = planned.len();
-    if count == 0 || PLANNED_WIDTH * MOST_ROWS < count || count % PLANNED_WIDTH != 0 {
-        return Err(Refusal::Shape);
-    }
-    Ok(())
-}
+use decimal::Written;
+use table::{Planned, PlannedRow};
+use tables::{Answer, PLANNED_WIDTH, Refusal};
 
 // How many bytes the line of a row has.
-fn row_bytes(i: u32, rank: u32, len: u32, response: u32) -> usize
-    ensures { (result ≡ length (row_line i rank len response)) × (result ≤ 69) }
+fn row_bytes(i: u32, row: PlannedRow) -> usize
+    ensures { (result ≡ length (row_line i row.rank row.len row.response)) × (result ≤ 69) }
 {
-    decimal::width(i) + decimal::width(rank) + decimal::width(len) + decimal::width(response) + 29
+    decimal::width(i)
+        + decimal::width(row.rank)
+        + decimal::width(row.len)
+        + decimal::width(row.response)
+        + 29
 }
 
 // How many bytes the text of a planned table has.
-fn plan_bytes(planned: &[u32]) -> usize
-    requires { Rows planned_width planned.now }
-    ensures { (result ≡ length (plan_text planned.now)) × (result ≤ 4096) }
+fn plan_bytes(planned: &Planned) -> usize
+    ensures { (result ≡ length (plan_text planned.now.numbers.now)) × (result ≤ 4096) }
 {
-    let n = planned.len() / PLANNED_WIDTH;
-    let mut bytes = decimal::width(n as u32) + 6;
-    for i in 0..n {
-        let at = PLANNED_WIDTH * i;
-        bytes += row_bytes(i as u32, planned[at], planned[at + 1], planned[at + 2]);
+    let mut bytes = decimal::width(planned.n as u32) + 6;
+    for i in 0..planned.n {
+        bytes += row_bytes(i as u32, planned.row(i));
     }
     bytes
 }
@@ -48,8 +38,8 @@ fn plan_bytes(planned: &[u32]) -> usize
 pub fn fit(planned: &[u32], len: usize) -> Answer
     ensures { FitAnswer planned.now len (result_of result []) }
 {
-    check_rows(planned)?;
-    let bytes = plan_bytes(planned);
+    let table = Planned::check(planned)?;
+    let bytes = plan_bytes(&table);
     if len < bytes {
         return Err(Refusal::Room);
     }
@@ -66,34 +56,25 @@ fn put_head(text: &mut Written, n: u32)
 }
 
 // The line of a row.
-fn put_row(text: &mut Written, i: u32, rank: u32, len: u32, response: u32)
-    requires { Room text.old (row_line i rank len response) }
-    ensures { Writes text.old (row_line i rank len response) text.new }
+fn put_row(text: &mut Written, i: u32, row: PlannedRow)
+    requires { Room text.old (row_line i row.rank row.len row.response) }
+    ensures { Writes text.old (row_line i row.rank row.len row.response) text.new }
 {
     text.field(b"row ", i);
-    text.field(b" rank ", rank);
-    text.field(b" length ", len);
-    text.field(b" response ", response);
+    text.field(b" rank ", row.rank);
+    text.field(b" length ", row.len);
+    text.field(b" response ", row.response);
     text.word(b"\n");
 }
 
 // The whole text of a planned table.
-fn put_plan(text: &mut Written, planned: &[u32])
-    requires rows { Rows planned_width planned.now }
-    requires room { Room text.old (plan_text planned.now) }
-    ensures { Writes text.old (plan_text planned.now) text.new }
+fn put_plan(text: &mut Written, planned: &Planned)
+    requires { Room text.old (plan_text planned.now.numbers.now) }
+    ensures { Writes text.old (plan_text planned.now.numbers.now) text.new }
 {
-    let n = planned.len() / PLANNED_WIDTH;
-    put_head(text, n as u32);
-    for i in 0..n {
-        let at = PLANNED_WIDTH * i;
-        put_row(
-            text,
-            i as u32,
-            planned[at],
-            planned[at + 1],
-            planned[at + 2],
-        );
+    put_head(text, planned.n as u32);
+    for i in 0..planned.n {
+        put_row(text, i as u32, planned.row(i));
     }
 }
 
@@ -102,8 +83,12 @@ pub fn print_into(planned: &[u32], buf: &mut [u8]) -> Answer
     ensures { PrintAnswer planned.now buf.old (result_of result buf.new) }
 {
     let bytes = fit(planned, buf.len())?;
+    let table = Planned {
+        numbers: planned,
+        n: planned.len() / PLANNED_WIDTH,
+    };
     let mut text = Written::new(buf);
-    put_plan(&mut text, planned);
+    put_plan(&mut text, &table);
     Ok(bytes)
 }
 

@@ -9,7 +9,7 @@ use Rattle.counting.proofs.Cases.{by_eq}
 use Rattle.decimal.specs.Decimal.{nought, digits, decimal}
 use Rattle.decimal.proofs.Decimal.{digits_zero, digits_last, digits_more, decimal_digits, some}
 use Rattle.reading.specs.Begins.{Begins, Between}
-use Rattle.reading.specs.inside.Piece.{OneOf, number_piece, Stops}
+use Rattle.reading.specs.inside.Piece.{OneOf, BelowDigits, number_piece, Stops}
 use Rattle.std.proofs.Common.{Result, Ok, Err}
 use Rattle.reading.specs.inside.Grow.{Digit}
 use Rattle.reading.specs.inside.Read.{ReadsNumber, EndsNumber}
@@ -96,28 +96,36 @@ decimal_tells e f le lf v w x y h =
     (next f lf v w (e ∷ x) y (rw (← decimal_digits v (omega arith)) g)))
 
 -- the byte b behind the digits of v goes on with no number and ends none
-pub record Over (least most end other v b : ℕ) : Type 0 where
+pub record Over (least most : ℕ) (ends : List ℕ) (v b : ℕ) : Type 0 where
   pub grown : (d : ℕ) → Digit b d → Between 1 most (10 * v + d) → ⊥
-  pub ended : 1 ≤ v → OneOf end other b → ⊥
+  pub ended : 1 ≤ v → OneOf ends b → ⊥
   pub zero : v ≡ 0 → b ≡ nought → 1 ≤ least
 
--- the piece of a number, whose bytes at the end are no digits
-module _ (least most end other : ℕ) (End-low : end < nought) (other-low : other < nought) where
-  below : (e : ℕ) → OneOf end other e → e < nought
-  below e = ⊎_elim (λ a. omega arith) (λ a. omega arith)
+below_digits : (ends : List ℕ) → BelowDigits ends → (e : ℕ) → OneOf ends e → e < nought
+below_digits [] low e o = absurd o
+below_digits (x ∷ xs) low e o = ⊎_elim (λ a. omega (arith, low.0)) (λ a. below_digits xs low.1 e a) o
 
-  pub code_number : Code (number_piece least most end other)
+one_of_some : (ends : List ℕ) → 1 ≤ length ends → (e : ℕ) × OneOf ends e
+one_of_some [] h = absurd (omega arith)
+one_of_some (x ∷ xs) h = (x, inl refl)
+
+-- the piece of a number, whose bytes at the end are no digits
+module _ (least most : ℕ) (ends : List ℕ) (low : BelowDigits ends) where
+  below : (e : ℕ) → OneOf ends e → e < nought
+  below = below_digits ends low
+
+  pub code_number : Code (number_piece least most ends)
   code_number a b ha hb x y e =
       let t = decimal_tells a.1 b.1 (below a.1 ha.1) (below b.1 hb.1) a.0 b.0 x y
       (simp append_assoc at e) in
       λ i. (t.0 i, t.1 i)
 
   -- stuck behind the digits of v, of which 0 has none
-  pub number_stops : (v : ℕ) (s t : List ℕ) → least ≤ 1 → 1 ≤ most → v ≤ most → s ≡ digits v ++ t →
-      ((b : ℕ) (u : List ℕ) → t ≡ b ∷ u → Over least most end other v b) →
-      Stops (number_piece least most end other) s (length (digits v))
-  number_stops v s t few one high split over =
-      stops_behind (number_piece least most end other) (digits v) t split begun
+  pub number_stops : 1 ≤ length ends → (v : ℕ) (s t : List ℕ) → least ≤ 1 → 1 ≤ most → v ≤ most → s ≡ digits v ++ t →
+      ((b : ℕ) (u : List ℕ) → t ≡ b ∷ u → Over least most ends v b) →
+      Stops (number_piece least most ends) s (length (digits v))
+  number_stops one_end v s t few one high split over =
+      stops_behind (number_piece least most ends) (digits v) t split begun
       (λ w hw y e. ⊎_elim
       (λ a. a.1)
       (λ a. omega (arith, ap length a.2))
@@ -135,29 +143,31 @@ module _ (least most end other : ℕ) (End-low : end < nought) (other-low : othe
       (λ a. omega (arith, o.zero a.0 (ap (λ (r : List ℕ). get_or r 0 0) a.2), hw.0.low, a.1))
       (next w.1 low v w.0 (b ∷ z) y g))
     where
-      begun : (w : ℕ × ℕ) × (number_piece least most end other).Allowed w
-          × Begins (digits v) ((number_piece least most end other).text w)
+      begun : (w : ℕ × ℕ) × (number_piece least most ends).Allowed w
+          × Begins (digits v) ((number_piece least most ends).text w)
       begun =
+          let end = one_of_some ends one_end in
           by_eq v 0
           (λ z. (
-            (1, end),
-            (record { low = few; high = one }, inl refl),
-            (decimal 1 ++ end ∷ [], rw (z, digits_zero)),
+            (1, end.0),
+            (record { low = few; high = one }, end.1),
+            (decimal 1 ++ end.0 ∷ [], rw (z, digits_zero)),
           ))
           (λ z. (
-            (v, end),
-            (record { low = omega arith; high = high }, inl refl),
-            (end ∷ [], rw (decimal_digits v (omega arith))),
+            (v, end.0),
+            (record { low = omega arith; high = high }, end.1),
+            (end.0 ∷ [], rw (decimal_digits v (omega arith))),
           ))
 
   -- stuck behind the digit 0
-  pub zero_stops : (s t : List ℕ) → least ≤ 0 → s ≡ nought ∷ t
-      → ((e : ℕ) (u : List ℕ) → OneOf end other e → t ≡ e ∷ u → ⊥)
-      → Stops (number_piece least most end other) s 1
+  pub zero_stops : 1 ≤ length ends → (s t : List ℕ) → least ≤ 0 → s ≡ nought ∷ t
+      → ((e : ℕ) (u : List ℕ) → OneOf ends e → t ≡ e ∷ u → ⊥)
+      → Stops (number_piece least most ends) s 1
   unfolding decimal
-  zero_stops s t none split over =
-      stops_behind (number_piece least most end other) (nought ∷ []) t split
-      ((0, end), (record { low = none; high = omega arith }, inl refl), (end ∷ [], refl))
+  zero_stops one_end s t none split over =
+      let end = one_of_some ends one_end in
+      stops_behind (number_piece least most ends) (nought ∷ []) t split
+      ((0, end.0), (record { low = none; high = omega arith }, end.1), (end.0 ∷ [], refl))
       (λ w hw y e. omega (arith, some w.0, simp length-append at (ap length e)))
       (λ b u e w hw z y g.
       let f = behind_zero w.1 (below w.1 hw.1) w.0 b z y g in
@@ -166,9 +176,9 @@ module _ (least most end other : ℕ) (End-low : end < nought) (other-low : othe
   -- a number v that stands there, and what is found behind it
   pub reads_end : (v : ℕ) (c d : Cursor) (m : ℕ) (r : Result Number ℕ) → Between least most v →
       m ≡ c.at + length (decimal v) → drop c.at c.text.now ≡ decimal v ++ drop m c.text.now
-      → (((e : ℕ) (u : List ℕ) → OneOf end other e → drop m c.text.now ≡ e ∷ u → ⊥) →
-      Stops (number_piece least most end other) (drop c.at c.text.now) (length (decimal v)))
-      → EndsNumber v end other m c d r → ReadsNumber least most end other c d r
+      → (((e : ℕ) (u : List ℕ) → OneOf ends e → drop m c.text.now ≡ e ∷ u → ⊥) →
+      Stops (number_piece least most ends) (drop c.at c.text.now) (length (decimal v)))
+      → EndsNumber v ends m c d r → ReadsNumber least most ends c d r
   reads_end v c d m (Ok n) h reached split stops f =
       record {
         text = f.2;

@@ -1,12 +1,11 @@
 -- Any two answers that the promise of a reader allows are equal.
-use Prim.Native.Nat.{ℕ, suc, ◌≤◌, ◌<◌}
+use Prim.Native.Nat.{ℕ, suc, ◌≤◌}
 use mathlib.Core.Path.{◌≡◌, refl, sym, ap, ◌∙◌}
 use mathlib.Core.List.{List, [], append-nil}
 use native.Mathlib.Omega.{arith}
 use lib.ListN.{drop}
 use Rattle.counting.proofs.Cases.{by_le}
-use Rattle.decimal.specs.Decimal.{nought}
-use Rattle.reading.specs.inside.Piece.{Piece, Stops, Passed, Stuck}
+use Rattle.reading.specs.inside.Piece.{Piece, BelowDigits, Stops, Passed, Stuck}
 use Rattle.std.proofs.Common.{Result, Ok, Err}
 use Rattle.reading.specs.inside.Read.{ReadsWord, ReadsNumber}
 use Rattle.reading.specs.declared.Cursor.{Cursor}
@@ -43,13 +42,13 @@ word_unique w c d e (Err place) (Ok _) p q = absurd (passed_or_stuck q.passed p.
 word_unique w c d e (Err _) (Err _) p q =
     (ap Err (stuck_unique p.stuck q.stuck), p.text ∙ sym q.text, p.same ∙ sym q.same)
 
-pub number_unique : (least most end other : ℕ) → end < nought → other < nought → (c d e : Cursor)
-    (a b : Result Number ℕ) → ReadsNumber least most end other c d a → ReadsNumber least most end other c e b →
+pub number_unique : (least most : ℕ) (ends : List ℕ) → BelowDigits ends → (c d e : Cursor)
+    (a b : Result Number ℕ) → ReadsNumber least most ends c d a → ReadsNumber least most ends c e b →
     (a ≡ b) × (d.text ≡ e.text) × (d.at ≡ e.at)
-number_unique least most end other l m c d e (Ok v) (Ok w) p q =
-    let same = passed_unique (code_number least most end other l m) p.passed q.passed in
+number_unique least most ends low c d e (Ok v) (Ok w) p q =
+    let same = passed_unique (code_number least most ends low) p.passed q.passed in
     ((λ i. Ok (record { value = (same.0 i).0; end = (same.0 i).1 })), p.text ∙ sym q.text, same.1)
-number_unique least most end other l m c d e (Ok v) (Err _) p q = absurd (passed_or_stuck p.passed q.stuck)
-number_unique least most end other l m c d e (Err _) (Ok w) p q = absurd (passed_or_stuck q.passed p.stuck)
-number_unique least most end other l m c d e (Err _) (Err _) p q =
+number_unique least most ends low c d e (Ok v) (Err _) p q = absurd (passed_or_stuck p.passed q.stuck)
+number_unique least most ends low c d e (Err _) (Ok w) p q = absurd (passed_or_stuck q.passed p.stuck)
+number_unique least most ends low c d e (Err _) (Err _) p q =
     (ap Err (stuck_unique p.stuck q.stuck), p.text ∙ sym q.text, p.same ∙ sym q.same)

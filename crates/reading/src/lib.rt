@@ -1,11 +1,11 @@
 // Readers of a text from a cursor on: one word, and one number with the byte that ends it.
 #![tactic(auto)]
 
-ghost use Rattle.std.specs.Prelude.{◌≡◌, ◌+◌, ◌≤◌, ◌<◌, length};
+ghost use Rattle.std.specs.Prelude.{◌≡◌, ◌+◌, ◌≤◌, length};
 ghost use Rattle.reading.specs.inside.Grow.{Grows};
 
 // A text, and the place up to which it has been read.
-#[derive(Clone, Copy)]
+#[derive(Drop)]
 pub struct Cursor<'a> {
     pub text: &'a [u8],
     pub at: usize,
@@ -20,7 +20,7 @@ pub struct Number {
 }
 
 impl<'a> Cursor<'a> {
-    ghost use Rattle.decimal.specs.Decimal.{nought};
+    ghost use Rattle.reading.specs.inside.Piece.{BelowDigits};
     ghost use Rattle.reading.specs.inside.Read.{ReadsWord, ReadsNumber, EndsNumber};
 
     // Past the word; or the place at which the text differs from it or ends.
@@ -37,11 +37,12 @@ impl<'a> Cursor<'a> {
         Ok(())
     }
 
-    // Past a number of least to most, where least is 0 or 1, and the byte that ends it, one of two; or the place up to
-    // which some such number could stand there.
-    pub fn number(&mut self, least: u64, most: u64, end: u8, other: u8) -> Result<Number, usize>
-        requires { (least ≤ 1) × (1 ≤ most) × (most ≤ 1000000000) × (end < nought) × (other < nought) }
-        ensures { ReadsNumber least most end other self.old self.new result }
+    // Past a number of least to most, where least is 0 or 1, and the byte that ends it, one of `ends`; or the place up
+    // to which some such number could stand there.
+    pub fn number(&mut self, least: u64, most: u64, ends: &[u8]) -> Result<Number, usize>
+        requires { (least ≤ 1) × (1 ≤ most) × (most ≤ 1000000000) × (1 ≤ length ends.now)
+            × BelowDigits ends.now }
+        ensures { ReadsNumber least most ends.now self.old self.new result }
     {
         let text = self.text;
         let mut value: u64 = 0;
@@ -49,11 +50,11 @@ impl<'a> Cursor<'a> {
             let byte = text[at];
             let Some(more) = grow(value, byte, most) else {
                 if 0 < value {
-                    return self.end(at, value, end, other);
+                    return self.end(at, value, ends);
                 }
                 // No digit before it: only 0 itself begins with the digit 0.
                 if least < 1 && byte == b'0' {
-                    return self.end(at + 1, 0, end, other);
+                    return self.end(at + 1, 0, ends);
                 }
                 return Err(at);
             };
@@ -63,14 +64,14 @@ impl<'a> Cursor<'a> {
     }
 
     // Past the byte that ends the number `value`, where it stands at the place behind the number.
-    fn end(&mut self, place: usize, value: u64, end: u8, other: u8) -> Result<Number, usize>
+    fn end(&mut self, place: usize, value: u64, ends: &[u8]) -> Result<Number, usize>
         requires { place ≤ length self.old.text.now }
-        ensures { EndsNumber value end other place self.old self.new result }
+        ensures { EndsNumber value ends.now place self.old self.new result }
     {
         match self.text.get(place) {
-            Some(&byte) if byte == end || byte == other => {
+            Some(end) if ends.contains(end) => {
                 self.at = place + 1;
-                Ok(Number { value, end: byte })
+                Ok(Number { value, end: *end })
             }
             _ => Err(place),
         }

@@ -19,12 +19,12 @@ use Rattle.sheet.specs.inside.Read.{tick_piece, task_piece, spaced, spacing, end
 use Rattle.sheet.specs.inside.Read.{region_piece, after_deadline, after_run, times_piece, told}
 
 -- of one byte that may end a number
-pub one_end : {x e : ℕ} → OneOf x x e → e ≡ x
-one_end = ⊎_elim (λ h. h) (λ h. h)
+pub one_end : {x e : ℕ} → OneOf (x ∷ []) e → e ≡ x
+one_end = ⊎_elim (λ h. h) (λ h. absurd h)
 
 -- the first line is a word and a number
 abbrev pub tick_number : Piece
-tick_number = number_piece 1 longest_tick 10 10
+tick_number = number_piece 1 longest_tick (word "\n")
 
 abbrev pub tick_parts : Piece
 tick_parts = followed (word_piece (word "tick ")) (λ _. tick_number)
@@ -46,7 +46,7 @@ pub code_tick : Code tick_piece
 code_tick =
     alike_code tick_alike
     (code_followed (word_piece (word "tick ")) (λ _. tick_number) (code_word (word "tick "))
-    (λ _. code_number 1 longest_tick 10 10 (omega arith) (omega arith)))
+    (λ _. code_number 1 longest_tick (word "\n") (omega arith, tt)))
 
 -- a region behind a space is two numbers
 abbrev pub region_parts : Piece
@@ -75,7 +75,7 @@ region_alike =
 
 -- a time with a space behind it tells itself, and so does a region behind its byte
 pub code_spaced : (least : ℕ) → Code (spaced least)
-code_spaced least = code_number least longest_time 32 32 (omega arith) (omega arith)
+code_spaced least = code_number least longest_time (word " ") (omega arith, tt)
 
 code_region : (end : ℕ) → Code (region_piece end)
 code_region end none none ha hb x y e = refl
@@ -84,7 +84,7 @@ code_region end (some q) none ha hb x y e = absurd (omega (arith, ha.0))
 code_region end (some q) (some r) ha hb x y e =
     alike_code region_alike
     (code_followed (spaced 0) (λ _. ended) (code_spaced 0)
-    (λ _. code_number 1 longest_time 10 10 (omega arith) (omega arith)))
+    (λ _. code_number 1 longest_time (word "\n") (omega arith, tt)))
     (some q) (some r) (refl, ha.1) (refl, hb.1) x y e
 
 -- a task line is a word and the times behind it
@@ -105,8 +105,8 @@ pub region_within : (end : ℕ) (r : Option Region) → FitsEnd end r → Region
 region_within end none h = tt
 region_within end (some r) h = h.1
 
-pub end_of : (r : Option Region) → RegionWithin r → (end : ℕ) × OneOf 32 10 end × FitsEnd end r
-end_of none h = (10, inr refl, refl)
+pub end_of : (r : Option Region) → RegionWithin r → (end : ℕ) × OneOf (word " \n") end × FitsEnd end r
+end_of none h = (10, inr (inl refl), refl)
 end_of (some r) h = (32, inl refl, (refl, h))
 
 abbrev pub task_alike : Alike task_parts task_piece
@@ -133,7 +133,7 @@ task_alike =
     }
 
 pub code_spacing : Code spacing
-code_spacing = code_number 1 longest_time 32 10 (omega arith) (omega arith)
+code_spacing = code_number 1 longest_time (word " \n") (omega arith, (omega arith, tt))
 
 pub code_task : Code task_piece
 code_task =

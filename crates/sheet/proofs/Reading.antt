@@ -15,7 +15,7 @@ use Rattle.reading.proofs.Cursors.{past_both, past_stuck}
 use Rattle.sheet.specs.Sheet.{Region}
 use Rattle.sheet.specs.inside.Read.{spaced, spacing, ended, region_piece, after_deadline, after_run}
 use Rattle.sheet.specs.inside.Read.{times_piece}
-use Rattle.sheet.proofs.Lines.{tick_number, code_spaced, one_time}
+use Rattle.sheet.proofs.Lines.{one_end, tick_number, code_spaced, one_time}
 
 -- something that the piece allows, and so could follow
 abbrev pub Some : Piece → Type 0
@@ -31,11 +31,11 @@ pub some_region : (v : spacing.Value) → spacing.Allowed v → Some (region_pie
 some_region v h =
     ⊎_elim
     (λ e. (some (record { start = 1; length = 1 }), (e, (record { low = omega arith; high = omega arith }, one_time))))
-    (λ e. (none, e))
+    (λ e. (none, one_end e))
     h.1
 
 pub some_spacing : Some after_deadline
-some_spacing = (((1, 10), none), ((one_time, inr refl), refl))
+some_spacing = (((1, 10), none), ((one_time, inr (inl refl)), refl))
 
 pub some_deadline : Some after_run
 some_deadline = (((1, 32), some_spacing.0), ((one_time, inl refl), some_spacing.1))

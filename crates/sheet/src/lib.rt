@@ -46,7 +46,7 @@ fn read_tick(cursor: &mut Cursor) -> Result<u64, usize>
     ensures { ReadsTick cursor.old cursor.new result }
 {
     cursor.word(b"tick ")?;
-    let tick = cursor.number(1, TICK, b'\n', b'\n')?;
+    let tick = cursor.number(1, TICK, b"\n")?;
     Ok(tick.value)
 }
 
@@ -54,8 +54,8 @@ fn read_tick(cursor: &mut Cursor) -> Result<u64, usize>
 fn read_region(cursor: &mut Cursor) -> Result<RegionTimes, usize>
     ensures { ReadsRegion cursor.old cursor.new result }
 {
-    let start = cursor.number(0, TIME, b' ', b' ')?;
-    let length = cursor.number(1, TIME, b'\n', b'\n')?;
+    let start = cursor.number(0, TIME, b" ")?;
+    let length = cursor.number(1, TIME, b"\n")?;
     Ok(RegionTimes {
         start: start.value,
         length: length.value,
@@ -66,9 +66,9 @@ fn read_region(cursor: &mut Cursor) -> Result<RegionTimes, usize>
 fn read_times(cursor: &mut Cursor) -> Result<Times, usize>
     ensures { ReadsTimes cursor.old cursor.new result }
 {
-    let run = cursor.number(1, TIME, b' ', b' ')?;
-    let deadline = cursor.number(1, TIME, b' ', b' ')?;
-    let spacing = cursor.number(1, TIME, b' ', b'\n')?;
+    let run = cursor.number(1, TIME, b" ")?;
+    let deadline = cursor.number(1, TIME, b" ")?;
+    let spacing = cursor.number(1, TIME, b" \n")?;
     let region = if spacing.end == b' ' {
         Some(read_region(cursor)?)
     } else {

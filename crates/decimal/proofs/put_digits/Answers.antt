@@ -1,10 +1,10 @@
 -- `put_digits` meets its contract. The loop's invariant: behind the digits of the rest the text of the number stands.
-use Prim.Native.Nat.{ℕ, ◌≤◌, ◌<◌, ◌+◌, ◌-◌, ◌/◌, ◌%◌}
-use mathlib.Core.Path.{◌≡◌, refl, sym, ap, ◌∙◌}
-use mathlib.Core.List.{List, [], ◌∷◌, ◌++◌, append-nil, append_assoc}
+use Prim.Native.Nat.{ℕ, ◌<◌, ◌+◌, ◌-◌, ◌/◌, ◌%◌}
+use mathlib.Core.Path.{◌≡◌, ap, ◌∙◌}
+use mathlib.Core.List.{List, [], ◌∷◌, ◌++◌, append_assoc}
 use native.Mathlib.Omega.{arith}
-use lib.ListN.{length, set, drop_of_length-le, length-append}
-use Rattle.std.proofs.lemmas.List.{drop-set, nil_from_length}
+use lib.ListN.{length, set, length-append}
+use Rattle.std.proofs.lemmas.List.{drop-set}
 use Rattle.decimal.specs.Decimal.{decimal}
 use Rattle.decimal.proofs.Decimal.{decimal_last}
 use Rattle.decimal.proofs.put_digits.Invariants.{Unwritten}
@@ -24,27 +24,8 @@ one_more text digits n rest h u =
       number = λ p. last.2 (omega arith);
     }
 
-pub loop-place-init : goal.loop-place-init
-loop-place-init c =
-    let none : length c.args.digits.now ≤ length c.args.digits.now = omega arith in
-    record {
-      front = decimal c.args.x;
-      whole = sym (ap (λ (r : List ℕ). decimal c.args.x ++ r) (drop_of_length-le c.args.digits.now none)
-          ∙ append-nil (decimal c.args.x));
-      many = sym c.requires;
-      number = λ _. refl;
-    }
-
 pub loop-place-preserved : goal.loop-place-preserved
 loop-place-preserved c =
     let l = c.loop-place in
     let n : l.place - 1 + 1 ≡ l.place = omega arith in
     one_more (decimal c.args.x) l.digits (l.place - 1) l.rest (omega arith) (rw n l.invariant)
-
-pub returns : goal.returns
-returns c =
-    let l = c.loop-place in
-    let u = l.invariant in
-    let first : l.place ≡ 0 = omega arith in
-    let none : u.front ≡ [] = nil_from_length u.front (u.many ∙ first) in
-    sym (u.whole ∙ rw (none, first))

@@ -7,4 +7,5 @@ use Rattle.printing.proofs.plan_bytes.Given as goal
 
 abbrev pub invariant-loop-i : goal.invariant-loop-i
 invariant-loop-i l =
-    (l.bytes ≡ length (plan_line l.n) + length (row_lines l.planned l.i)) × (l.bytes ≤ 16 + 69 * l.i)
+    (l.bytes ≡ length (plan_line l.planned.n) + length (row_lines l.planned.numbers.now l.i))
+    × (l.bytes ≤ 16 + 69 * l.i)

@@ -29,13 +29,15 @@ given : (c : In_ok-bytes) →
 given c =
     let f = fit_given c.args.planned.now c.args.buf.now c.in_ok-bytes.ensures refl in (f.0, f.1, f.3)
 
-pub put_plan-requires-clause-rows : goal.put_plan-requires-clause-rows
-put_plan-requires-clause-rows c =
-    rows_of_shape planned_width c.args.planned.now (given (goal.at.put_plan-requires-clause-rows c).In_ok-bytes).0
+pub invariant_of-table : goal.invariant_of-table
+invariant_of-table c =
+    let f = given (goal.at.invariant_of-table c).In_ok-bytes in
+    let rows = rows_of_shape planned_width c.args.planned.now f.0 in
+    record { whole = omega arith; some = omega arith; few = omega arith }
 
-pub put_plan-requires-clause-room : goal.put_plan-requires-clause-room
-put_plan-requires-clause-room c =
-    let f = given (goal.at.put_plan-requires-clause-room c).In_ok-bytes in
+pub put_plan-requires : goal.put_plan-requires
+put_plan-requires c =
+    let f = given (goal.at.put_plan-requires c).In_ok-bytes in
     record { fits = omega (arith, f.1, ap length c.new-text.ensures.whole) }
 
 pub returns : goal.returns

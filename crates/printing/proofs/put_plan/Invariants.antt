@@ -4,4 +4,4 @@ use Rattle.printing.specs.Printed.{row_lines}
 use Rattle.printing.proofs.put_plan.Given as goal
 
 abbrev pub invariant-loop-i : goal.invariant-loop-i
-invariant-loop-i l = Writes l.initial.text (row_lines l.planned l.i) l.text
+invariant-loop-i l = Writes l.initial.text (row_lines l.planned.numbers.now l.i) l.text

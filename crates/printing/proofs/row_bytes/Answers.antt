@@ -5,4 +5,4 @@ use Rattle.printing.proofs.row_bytes.Goals as goal
 
 pub returns : goal.returns
 returns c =
-    let a = c.args in (omega (arith, length_row_line a.i a.rank a.len a.response), omega arith)
+    let a = c.args in (omega (arith, length_row_line a.i a.row.rank a.row.len a.row.response), omega arith)

@@ -1,6 +1,6 @@
 -- Pieces of text: what a reader may find at a place, and where it is stuck.
 use Rattle.std.specs.Prelude.{ℕ, suc, ◌+◌, ◌≤◌, ◌<◌, ◌≡◌, ◌⊎◌, List, [], ◌∷◌, ◌++◌, length, take, drop}
-use Rattle.decimal.specs.Decimal.{decimal}
+use Rattle.decimal.specs.Decimal.{nought, decimal}
 use Rattle.reading.specs.Begins.{Begins, Between}
 
 -- a kind of text: its values, the text of each, and those that are allowed
@@ -13,17 +13,23 @@ pub record Piece : Type 1 where
 abbrev pub word_piece : List ℕ → Piece
 word_piece w = record { Value = Unit {0}; text = λ _. w; Allowed = λ _. Unit {0} }
 
--- the byte e is one of two, which may be the same
-abbrev pub OneOf : ℕ → ℕ → ℕ → Type 0
-OneOf end other e = (e ≡ end) ⊎ (e ≡ other)
+-- the byte e is one of these
+abbrev pub OneOf : List ℕ → ℕ → Type 0
+OneOf [] e = ⊥
+OneOf (x ∷ xs) e = (e ≡ x) ⊎ OneOf xs e
 
--- a number of least to most in decimal, and the byte that ends it, one of two
-abbrev pub number_piece : ℕ → ℕ → ℕ → ℕ → Piece
-number_piece least most end other =
+-- each of them comes before the digits
+abbrev pub BelowDigits : List ℕ → Type 0
+BelowDigits [] = Unit {0}
+BelowDigits (x ∷ xs) = (x < nought) × BelowDigits xs
+
+-- a number of least to most in decimal, and the byte that ends it, one of these
+abbrev pub number_piece : ℕ → ℕ → List ℕ → Piece
+number_piece least most ends =
     record {
       Value = ℕ × ℕ;
       text = λ v. decimal v.0 ++ v.1 ∷ [];
-      Allowed = λ v. Between least most v.0 × OneOf end other v.1;
+      Allowed = λ v. Between least most v.0 × OneOf ends v.1;
     }
 
 -- one piece, and behind it another that may depend on what was read of the first

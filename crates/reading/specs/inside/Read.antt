@@ -19,15 +19,15 @@ abbrev pub ReadsWord : List ℕ → Cursor → Cursor → Result (Unit {0}) ℕ 
 ReadsWord w c d (Ok _) = Past (word_piece w) c d tt
 ReadsWord w c d (Err place) = Stays (word_piece w) c d place
 
-abbrev pub ReadsNumber : ℕ → ℕ → ℕ → ℕ → Cursor → Cursor → Result Number ℕ → Type 0
-ReadsNumber least most end other c d (Ok n) = Past (number_piece least most end other) c d (n.value, n.end)
-ReadsNumber least most end other c d (Err place) = Stays (number_piece least most end other) c d place
+abbrev pub ReadsNumber : ℕ → ℕ → List ℕ → Cursor → Cursor → Result Number ℕ → Type 0
+ReadsNumber least most ends c d (Ok n) = Past (number_piece least most ends) c d (n.value, n.end)
+ReadsNumber least most ends c d (Err place) = Stays (number_piece least most ends) c d place
 
--- at a place behind the number v: one of the two bytes that may end it, or neither
-abbrev pub EndsNumber : ℕ → ℕ → ℕ → ℕ → Cursor → Cursor → Result Number ℕ → Type 0
-EndsNumber v end other at c d (Ok n) =
-    (n.value ≡ v) × OneOf end other n.end × (d.text ≡ c.text) × (d.at ≡ at + 1) × (d.at ≤ length c.text.now)
+-- at a place behind the number v: one of the bytes that may end it, or none
+abbrev pub EndsNumber : ℕ → List ℕ → ℕ → Cursor → Cursor → Result Number ℕ → Type 0
+EndsNumber v ends at c d (Ok n) =
+    (n.value ≡ v) × OneOf ends n.end × (d.text ≡ c.text) × (d.at ≡ at + 1) × (d.at ≤ length c.text.now)
     × (drop at c.text.now ≡ n.end ∷ drop d.at c.text.now)
-EndsNumber v end other at c d (Err place) =
+EndsNumber v ends at c d (Err place) =
     (place ≡ at) × (d.text ≡ c.text) × (d.at ≡ c.at)
-    × ((e : ℕ) (u : List ℕ) → OneOf end other e → drop at c.text.now ≡ e ∷ u → ⊥)
+    × ((e : ℕ) (u : List ℕ) → OneOf ends e → drop at c.text.now ≡ e ∷ u → ⊥)

@@ -1,6 +1,6 @@
 -- `read_region` meets its contract: two numbers, one behind the other.
 use Rattle.reading.proofs.Pieces.{stuck_first, alike_stuck}
-use Rattle.reading.proofs.Cursors.{past_both, past_stuck, past_alike}
+use Rattle.reading.proofs.Cursors.{past_stuck}
 use Rattle.sheet.specs.inside.Read.{spaced, ended, ReadsRegion}
 use Rattle.sheet.proofs.Lines.{region_alike, code_spaced}
 use Rattle.sheet.proofs.Reading.{some_length, hands_on}
@@ -17,6 +17,3 @@ returns-in_err-length c =
     hands_on (ReadsRegion _ _) c.from_residual-in_err-length.ensures
     (alike_stuck region_alike
     (past_stuck (λ _. ended) c.in_ok-start.ensures (code_spaced 0) c.in_err-length.ensures.stuck))
-
-pub returns : goal.returns
-returns c = past_alike region_alike (past_both (λ _. ended) c.in_ok-start.ensures c.in_ok-length.ensures)

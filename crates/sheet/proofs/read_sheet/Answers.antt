@@ -1,7 +1,6 @@
 -- `read_sheet` meets its contract: the first line, and the task lines behind it.
 use Rattle.sheet.specs.inside.Read.{ReadsSheet}
 use Rattle.sheet.proofs.Fronts.{tick_stuck, front_none}
-use Rattle.sheet.proofs.Answers.{reads_sheet}
 use Rattle.sheet.proofs.Reading.{hands_on}
 use Rattle.sheet.proofs.read_sheet.Goals as goal
 
@@ -11,7 +10,3 @@ read_tasks-requires c =
 
 pub returns-in_err-tick : goal.returns-in_err-tick
 returns-in_err-tick c = hands_on (ReadsSheet _ _ _) c.from_residual.ensures (tick_stuck _ _ c.in_err-tick.ensures)
-
-pub returns : goal.returns
-returns c =
-    let t = c.read_tasks in reads_sheet _ _ _ _ t.result (rw c.in_ok-tick.ensures.text at t.ensures)

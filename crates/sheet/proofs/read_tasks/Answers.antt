@@ -4,8 +4,7 @@ use Prim.Native.Nat.{ℕ, ◌≤◌, ◌<◌, ◌+◌, ◌*◌, ◌-◌}
 use mathlib.Core.Path.{◌≡◌, refl, ◌∙◌}
 use mathlib.Core.List.{List, [], ◌∷◌, ◌++◌}
 use native.Mathlib.Omega.{arith}
-use lib.ListN.{drop, length-append, length-drop, length}
-use lib.Seq.{length-take-le}
+use lib.ListN.{length-append, length}
 use borrow.Rule.Slice.PartMut.{put_mid}
 use Rattle.counting.proofs.Cases.{by_le}
 use Rattle.tables.specs.Table.{row_width, most_rows}
@@ -49,17 +48,6 @@ returns-in_err-times c =
     hands_on (ReadsTasks text c.args.tick c.args.table.now l.table) c.from_residual.ensures
     (front_stuck text _ f.tasks l.cursor.at f.front _ few (λ h. l.invariant.1 (omega (arith, f.many)))
     (rw l.invariant.0 at c.in_err-times.ensures))
-
-pub put_ticks-requires : goal.put_ticks-requires
-put_ticks-requires c =
-    let l = c.loop-n in
-    let whole = c.requires.1 in
-    let e : row_width * l.n + row_width - row_width * l.n ≡ row_width = omega arith in
-    let room : row_width ≤ length (drop (row_width * l.n) l.table) = simp length-drop (omega arith) in (
-      rw e (length-take-le row_width (drop (row_width * l.n) l.table) room),
-      c.in_ok-times.ensures.passed.allowed,
-      c.requires.0.tick_within,
-    )
 
 -- the line at hand, and its row
 line_more : (c : After-put_ticks) →

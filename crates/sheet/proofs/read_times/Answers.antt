@@ -4,7 +4,7 @@ use mathlib.Core.Logic.{⊎_elim}
 use Rattle.reading.proofs.Pieces.{stuck_first}
 use Rattle.reading.proofs.Cursors.{past_stuck}
 use Rattle.sheet.specs.inside.Read.{spaced, spacing, region_piece, after_deadline, after_run, ReadsTimes}
-use Rattle.sheet.proofs.Lines.{code_spaced, code_spacing}
+use Rattle.sheet.proofs.Lines.{one_end, code_spaced, code_spacing}
 use Rattle.sheet.proofs.Reading.{some_region, some_spacing, some_deadline, no_region, times_stuck, times_past}
 use Rattle.sheet.proofs.Reading.{hands_on}
 use Rattle.sheet.proofs.read_times.Goals as goal
@@ -49,5 +49,5 @@ returns-else-spacing-eq32 c =
       _,
       refl,
       times_past c.in_ok-run.ensures c.in_ok-deadline.ensures last
-          (no_region _ _ (⊎_elim (λ e. absurd (no_space e)) (λ e. e) last.passed.allowed.1)),
+          (no_region _ _ (⊎_elim (λ e. absurd (no_space e)) (λ e. one_end e) last.passed.allowed.1)),
     )

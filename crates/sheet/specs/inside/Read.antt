@@ -27,13 +27,13 @@ ReadsTick c d (Err place) = Stuck tick_piece c.text.now c.at place
 
 -- a time of at least so much with a space behind it, one with a space or a line feed, and one that ends the line
 abbrev pub spaced : ℕ → Piece
-spaced least = number_piece least longest_time 32 32
+spaced least = number_piece least longest_time (word " ")
 
 abbrev pub spacing : Piece
-spacing = number_piece 1 longest_time 32 10
+spacing = number_piece 1 longest_time (word " \n")
 
 abbrev pub ended : Piece
-ended = number_piece 1 longest_time 10 10
+ended = number_piece 1 longest_time (word "\n")
 
 -- what stands behind the byte that ends the spacing: start and length of a region after a space, nothing after a line
 -- feed
