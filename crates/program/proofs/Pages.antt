@@ -1,5 +1,5 @@
 -- Laws of the page of a text: what is given has the shape and the length for the next step, and one text has one page.
-use Prim.Native.Nat.{ℕ, ◌*◌, ◌≤◌, ◌<◌}
+use Prim.Native.Nat.{ℕ, ◌≤◌, ◌<◌}
 use mathlib.Core.Path.{◌≡◌, refl, sym, ap, ◌∙◌, subst}
 use mathlib.Core.Logic.{⊎_elim}
 use mathlib.Core.List.{List}
@@ -7,23 +7,19 @@ use native.Mathlib.Omega.{arith}
 use lib.ListN.{length, take}
 use lib.Seq.{length-take-le}
 use Rattle.counting.proofs.Cases.{by_eq}
-use Rattle.tables.specs.Table.{row_width, most_rows, table_of}
+use Rattle.tables.specs.Table.{row_width, table_of}
 use Rattle.tables.specs.Refusal.{Result, bare}
 use Rattle.tables.specs.Checks.{Rows}
 use Rattle.tables.proofs.Answered.{granted, clear_at}
 use Rattle.tables.proofs.Clear.{rows_of_shape}
 use Rattle.choice.specs.Answers.{planned_width, PlanGiven, plan_checks, PlanAnswer}
-use Rattle.sheet.specs.Sheet.{ticks_of}
-use Rattle.sheet.specs.Answers.{SheetGiven, ticks_checks, SheetAnswer}
-use Rattle.sheet.proofs.Fronts.{longest_sheet, length_ticks}
+use Rattle.sheet.specs.Answers.{SheetAnswer}
+use Rattle.sheet.proofs.Fronts.{longest_sheet}
 use Rattle.printing.specs.Printed.{plan_text, refused_line}
 use Rattle.printing.specs.Answers.{PrintFront}
 use Rattle.plan.proofs.Unique.{plan_unique}
 use Rattle.sheet.proofs.Answers.{sheet_unique, cut_same}
 use Rattle.program.specs.Reply.{blank, Refuses, PagePlanned, Page}
-
-not_zero : {n : ℕ} → 1 ≤ n → n ≡ 0 → ⊥
-not_zero h e = omega arith
 
 -- a planned table that is given is rows
 pub plan_rows : (table : List ℕ) (r : Result) → PlanAnswer table (blank planned_width) r → r.number ≡ 0 →
@@ -48,20 +44,6 @@ plan_rows table r a z =
       },
     )
 
--- a table that is given by sheet is within its output
-pub sheet_within : (text : List ℕ) (r : Result) → SheetAnswer text (blank row_width) r → r.number ≡ 0 →
-    r.value ≤ row_width * most_rows
-sheet_within text r a z =
-    ⊎_elim
-    (λ x. absurd (not_zero (omega arith) (sym x.number ∙ z)))
-    (λ x.
-    let ticks = ticks_of x.0 x.1 in
-    let g = granted bare (ticks_checks ticks (blank row_width)) (SheetGiven ticks (blank row_width)) (blank row_width) r
-    refl z x.3 in
-    let v = g.1.given.many in
-    let f = x.2.formed.few in omega (arith, length_ticks x.0 x.1))
-    a
-
 -- with room for it, print gives the text
 pub front_given : (planned : List ℕ) (len : ℕ) (front : List ℕ) → Rows planned_width planned →
     length (plan_text planned) ≤ len → PrintFront planned len front
@@ -72,6 +54,24 @@ front_given planned len front rows fits p =
     (λ x. absurd (x.place.1 rows))
     (λ x. ⊎_elim (λ y. absurd (let l = y.place.1 in omega arith)) (λ y. y.1.number) x.1)
     p.fit)
+
+-- the page of a table that is given, and of one that is refused
+pub plan_given : (table : List ℕ) (r : Result) → PlanAnswer table (blank planned_width) r → r.number ≡ 0 →
+    PagePlanned table (plan_text (take r.value r.out))
+plan_given table r a z = record { result = r; plan = a; given = λ w. refl; refused = λ n. absurd (n z) }
+
+pub plan_refused : (table : List ℕ) (r : Result) → PlanAnswer table (blank planned_width) r → (r.number ≡ 0 → ⊥) →
+    PagePlanned table (refused_line r.number r.place)
+plan_refused table r a n = record { result = r; plan = a; given = λ z. absurd (n z); refused = λ w. refl }
+
+-- the page of a sheet whose table has the page, and of one that is refused
+pub sheet_given : (text : List ℕ) (r : Result) (page : List ℕ) → SheetAnswer text (blank row_width) r → r.number ≡ 0 →
+    PagePlanned (take r.value r.out) page → Page text page
+sheet_given text r page a z p = record { result = r; sheet = a; given = λ w. p; refused = λ n. absurd (n z) }
+
+pub sheet_refused : (text : List ℕ) (r : Result) → SheetAnswer text (blank row_width) r → (r.number ≡ 0 → ⊥) →
+    Page text (refused_line r.number r.place)
+sheet_refused text r a n = record { result = r; sheet = a; given = λ z. absurd (n z); refused = λ w. refl }
 
 -- one text has one page
 module _ {a b : List ℕ} where

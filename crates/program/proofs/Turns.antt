@@ -1,34 +1,24 @@
--- Laws of reading in turns: what the turns put behind one another is what they took from the input, and the page of what
--- was read is the page of the whole input.
-use Rattle.std.proofs.Common.{◌≡◌, ℕ, ◌+◌, ◌≤◌, ◌<◌, List, [], ◌++◌, arith, length, take, drop, sym, ap, ◌∙◌, refl, subst, drop_at, length-take-le, take_all}
+-- Laws of reading in turns: what each turn reads stands behind what was read before, and the page of what was read is the
+-- page of the whole input.
+use Rattle.std.proofs.Common.{◌≡◌, ℕ, ◌+◌, ◌≤◌, ◌<◌, List, [], ◌++◌, arith, length, take, drop, sym, ap, ◌∙◌, subst, drop_at, length-take-le, take_all}
 use Rattle.std.specs.declared.option.Option.{Option}
 use Rattle.std.specs.declared.option.Option.TheVariants.{None, Some}
-use Rattle.std.specs.Io.KnownBytes.{Consumes, Appends, Keeps, IsAtEnd}
+use Rattle.std.specs.declared.result.Result.{Result}
+use Rattle.std.specs.declared.result.Result.TheVariants.{Ok, Err}
+use Rattle.std.specs.Result.{MatchResult, IfOk, IsErrAnd}
+use Rattle.std.specs.Io.KnownBytes.{Consumes, Appends, IsAtEnd}
 use Rattle.std.proofs.lemmas.Slice.{take-put_mid_below}
-use Rattle.std.proofs.lemmas.List.{append_assoc, append-nil}
+use Rattle.std.proofs.lemmas.List.{append-nil}
+use Rattle.std.proofs.lemmas.Result.{err_from_is_err_and}
 use borrow.Rule.Slice.PartMut.{put_mid, post_of}
 use lib.Seq.{take-append-le, take-add}
 use Rattle.counting.proofs.Cases.{by_le}
-use Rattle.program.specs.declared.Outcome.TheVariants.{Written}
+use Rattle.program.specs.declared.Fault.{Fault}
+use Rattle.program.specs.declared.Fault.TheVariants.{Unwritten}
 use Rattle.program.specs.Reply.{Page}
 use Rattle.program.specs.Run.{WritesPage}
 use Rattle.sheet.proofs.Fronts.{longest_sheet}
 use Rattle.program.proofs.Pages.{page_cut}
-
--- what nothing is written to stays as it was
-pub keeps_same : (a : Option (List ℕ)) → Keeps a a
-keeps_same None = tt
-keeps_same (Some x) = refl
-
-pub consumes_nil : (a : Option (List ℕ)) → Consumes a a []
-consumes_nil None = tt
-consumes_nil (Some x) = refl
-
-pub consumes_more : (a b c : Option (List ℕ)) (bs cs : List ℕ) → Consumes a b bs → Consumes b c cs → Consumes a c (bs ++ cs)
-consumes_more None b c bs cs p q = tt
-consumes_more (Some x) None c bs cs p q = absurd p
-consumes_more (Some x) (Some y) None bs cs p q = absurd q
-consumes_more (Some x) (Some y) (Some z) bs cs p q = p ∙ ap (λ l. bs ++ l) q ∙ sym (append_assoc bs cs z)
 
 -- the front of a buffer after a read of k bytes behind its first n
 pub read_front : (n room k : ℕ) (buf got : List ℕ) → n ≤ length buf → k ≤ length got
@@ -51,8 +41,16 @@ read_all text rest front k e within end =
 -- the page of what was read is the page of the whole input
 pub page_written : (a b old new : Option (List ℕ)) (front : List ℕ) (k : ℕ) (page : List ℕ) → Consumes a b front
     → length front ≤ k → (length front < k → IsAtEnd b) → longest_sheet < k → Page front page → Appends old new page
-    → WritesPage a old new Written
+    → WritesPage a old new (Ok tt)
 page_written None b old new front k page c within end long p q = tt
 page_written (Some text) None old new front k page c within end long p q = absurd c
 page_written (Some text) (Some rest) old new front k page c within end long p q =
     (page, page_cut text k page long (subst (λ t. Page t page) (sym (read_all text rest front k c within end)) p), q)
+
+-- a run that ends in a write comes to `Unwritten` where the write fails, and to what it wrote where it does not
+pub write_comes : {E : Type 0} (a old new : Option (List ℕ)) (Q : E → Fault → Type 0)
+    (r : Result (Unit {0}) E) (m : Result (Unit {0}) Fault) → MatchResult r (λ x. m ≡ Ok x) (λ e. IsErrAnd m (Q e))
+    → ((e : E) (f : Fault) → Q e f → f ≡ Unwritten) → IfOk r (λ x. WritesPage a old new (Ok tt)) → WritesPage a old new m
+write_comes a old new Q (Ok x) m same named written = rw same written
+write_comes a old new Q (Err e) m failed named written =
+    let p = err_from_is_err_and m failed in rw (p.1, named e p.0 p.2) tt

@@ -64,7 +64,9 @@ fn first_fault(table: &[u32]) -> Option<usize>
     None
 }
 
-// The rows of a task table; past its n rows stand zeros.
+// The rows of a task table; past its n rows stand zeros. Inlined, as its caller is, since each place that hands the rows
+// on copies them: 640 bytes of the stack that the header names.
+#[inline(always)]
 pub fn rows_of(table: &[u32]) -> [Row; MOST_ROWS]
     requires whole { length table.now ≡ row_width * (table_of table.now).n }
     requires few { (table_of table.now).n ≤ most_rows }
@@ -78,8 +80,7 @@ pub fn rows_of(table: &[u32]) -> [Row; MOST_ROWS]
     rows
 }
 
-// The checks 1 and 3 of a task table, and its rows where both are clear. Inlined, the rows are made in the caller's own
-// frame: a frame of its own would take the stack of a call past what the header promises.
+// The checks 1 and 3 of a task table, and its rows where both are clear.
 #[inline(always)]
 pub fn check_table(table: &[u32]) -> Result<Tasks, Refusal>
     ensures { TableChecked table.now result }

@@ -2,7 +2,7 @@
 // number, place and value as C has them. The crate `templetbark_c` exports them for C.
 #![tactic(auto)]
 
-ghost use Rattle.std.specs.Prelude.{[], ◌≡◌, length};
+ghost use Rattle.std.specs.Prelude.{[], ◌≡◌, length, take, IfOk, IfErr};
 ghost use Rattle.test.specs.Answers.{TimesAnswer, VerdictAnswer};
 ghost use Rattle.choice.specs.Answers.{PlanAnswer};
 ghost use Rattle.kernel.specs.Answers.{PlayAnswer};
@@ -16,7 +16,7 @@ use tables::Said;
 pub fn tb_plan(table: &[u32], out: &mut [u32]) -> Said
     ensures { PlanAnswer table.now out.old (said_of result out.new) }
 {
-    tables::say(plan::plan(table, out))
+    plan::plan(table, out).into()
 }
 
 // times: the response of each row of a table under a plan that is given.
@@ -24,14 +24,14 @@ pub fn tb_times(table: &[u32], plan: &[u32], out: &mut [u32]) -> Said
     ensures { TimesAnswer table.now plan.now out.old
         (said_of result out.new) }
 {
-    tables::say(times::times(table, plan, out))
+    times::times(table, plan, out).into()
 }
 
 // verdict: 1 where no row's response passes its deadline under the plan that is given, and 0 where one does.
 pub fn tb_verdict(table: &[u32], plan: &[u32]) -> Said
     ensures { VerdictAnswer table.now plan.now (said_of result []) }
 {
-    tables::say(times::verdict(table, plan))
+    times::verdict(table, plan).into()
 }
 
 // play: when each job of a list finishes, under the kernel's dispatch rule and a plan that is given.
@@ -39,28 +39,28 @@ pub fn tb_play(table: &[u32], plan: &[u32], jobs: &[u32], out: &mut [u32]) -> Sa
     ensures { PlayAnswer table.now plan.now jobs.now out.old
         (said_of result out.new) }
 {
-    tables::say(play::play(table, plan, jobs, out))
+    play::play(table, plan, jobs, out).into()
 }
 
 // sheet: the task table in ticks that a sheet's text says.
 pub fn tb_sheet(text: &[u8], out: &mut [u32]) -> Said
     ensures { SheetAnswer text.now out.old (said_of result out.new) }
 {
-    tables::say(sheet::sheet(text, out))
+    sheet::sheet(text, out).into()
 }
 
 // print: the text of a planned table, at the front of the lent buffer.
 pub fn tb_print(planned: &[u32], buf: &mut [u8]) -> Said
     ensures { PrintAnswer planned.now buf.old (said_of result buf.new) }
 {
-    tables::say(printing::print_into(planned, buf))
+    printing::print_into(planned, buf).into()
 }
 
 // fit: what print answers for a buffer of this length, with nothing lent to write to.
 pub fn tb_fit(planned: &[u32], len: usize) -> Said
     ensures { FitAnswer planned.now len (said_of result []) }
 {
-    tables::say(printing::fit(planned, len))
+    printing::fit(planned, len).into()
 }
 
 // print, for callers in Rattle: hands back that front of the lent buffer, empty on a refusal.
@@ -69,4 +69,16 @@ pub fn print<'a>(planned: &[u32], buf: &'a mut [u8]) -> &'a mut [u8]
         × (result.ref_ptr ≡ buf.entry.ref_ptr) }
 {
     printing::print(planned, buf)
+}
+
+// For callers in Rattle: the front of a lent output that an answer counts, or the answer itself where it is a refusal.
+pub fn front(said: Said, out: &[u32]) -> Result<&[u32], Said>
+    ensures given { IfOk result (λ given. (said.number ≡ 0) × (given.now ≡ take said.value out.now)) }
+    ensures refused { IfErr result (λ refusal. (refusal ≡ said) × (said.number ≡ 0 → ⊥)) }
+{
+    if said.number != 0 {
+        return Err(said);
+    }
+    let end = out.len().min(said.value as usize);
+    Ok(&out[..end])
 }

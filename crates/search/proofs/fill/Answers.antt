@@ -290,7 +290,8 @@ put_back-requires c =
     )
 
 -- what the row in hand blocks with
-blocks_with : (tasks : Tasks) (i q : ℕ) {m : ℕ} → m ≡ longer_in (get_or tasks.rows i no) q → m ≡ longer (table tasks) i q
+blocks_with : (tasks : Tasks) (i q : ℕ) {m : ℕ} → m ≡ longer_in (get_or tasks.rows i no) q →
+    m ≡ longer (table tasks) i q
 blocks_with tasks i q e = e ∙ sym (longer_in_lem tasks.rows tasks.n i q)
 
 -- the level is that of the rank again
