@@ -16,7 +16,8 @@ mod busy_check;
 pub use busy_check::check_busy;
 use tables::{Answer, MOST_ROWS, Refusal, TIMES_WIDTH, Tasks};
 
-// The check 4, and then the response of each row of a plan that is well formed. Inlined, as the check is.
+// The check 4, and then the response of each row of a plan that is well formed. Inlined, so that its places lie in the
+// caller's frame beside what is done with: the header names the stack of a call.
 #[inline(always)]
 fn responses_of(tasks: &Tasks, plan: &[u32]) -> Result<[u32; MOST_ROWS], Refusal>
     requires { Clear (plan_form (table_in tasks.now.rows tasks.now.n) plan.now) }
