@@ -35,13 +35,13 @@ pub struct Written<'a> {
 }
 
 impl<'a> Written<'a> {
-    // From the first byte on.
-    pub fn new(buf: &'a mut [u8]) -> Self
+    // From the place `at` on.
+    pub fn new(buf: &'a mut [u8], at: usize) -> Self
         ensures same_buffer { result.buf.ghost_name ≡ buf.entry.ghost_name }
         ensures whole { result.buf.now ≡ buf.old }
-        ensures first { result.at ≡ 0 }
+        ensures first { result.at ≡ at }
     {
-        Written { buf, at: 0 }
+        Written { buf, at }
     }
 
     // The place behind what has been written.

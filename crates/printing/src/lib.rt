@@ -87,7 +87,7 @@ pub fn print_into(planned: &[u32], buf: &mut [u8]) -> Answer
         numbers: planned,
         n: planned.len() / PLANNED_WIDTH,
     };
-    let mut text = Written::new(buf);
+    let mut text = Written::new(buf, 0);
     put_plan(&mut text, &table);
     Ok(bytes)
 }
@@ -106,7 +106,7 @@ pub fn put_refused(buf: &mut [u8], number: u32, place: u32) -> usize
     requires { 30 ≤ length buf.old }
     ensures { Put buf.old 0 (refused_line number place) buf.new result }
 {
-    let mut line = Written::new(buf);
+    let mut line = Written::new(buf, 0);
     line.field(b"refused ", number);
     line.field(b" ", place);
     line.word(b"\n");
