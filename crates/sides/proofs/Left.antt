@@ -19,8 +19,7 @@ use Rattle.sides.specs.declared.ask.Ask.{Ask}
 use Rattle.sides.specs.inside.Asks.{nothing, row}
 use Rattle.marks.specs.inside.Marks.{marked, Placed}
 use Rattle.sides.specs.inside.Level.{Packed, LeftOut, PutBack}
-use Rattle.sides.proofs.Rows.{ask_same}
-use Rattle.sides.proofs.Pack.{over_one, packed_row}
+use Rattle.sides.proofs.Pack.{over_one}
 use Rattle.sides.proofs.Asking.{Holding, packed_holding}
 
 -- a sum in which one number has changed
@@ -56,30 +55,8 @@ module _ {asks : List Ask} {P : ℕ → Bool} {before level : List Ask} {m : ℕ
   place_inside = omega (arith, w.same (λ _ _. 1), over_one nothing level m, count_lt P i (length asks) l e)
 
   -- it is row i that stands at its place
-  at : (g : Ask → ℕ) → g (row level p) ≡ g (row asks i)
-  at g =
-      let F : ℕ → ℕ = λ j. given (eqb p (count P j)) (g (row asks j)) in
-      let others = sum_zero (λ j. given (without P i j) (F j)) (length asks)
-      (λ j _.
-      by_bool (without P i j)
-      (λ o. rw o (
-      without_elim P i j o
-      (λ ne q.
-      given_no (eqb p (count P j)) (g (row asks j))
-      (ne_eqb p (count P j) (λ same.
-      by_le i j
-      (λ le. omega (arith, count_lt P i j (by_eq i j (λ z. absurd (ne (sym z))) (λ z. omega arith)) e))
-      (λ lt. omega (arith, count_lt P j i lt q)))))))
-      (λ o. rw o)) in
-      omega (
-        arith,
-        packed_row w p place_inside g,
-        sum_without P i F (length asks) l e,
-        given_yes (eqb p (count P i)) (g (row asks i)) (eq-eqb p p refl),
-      )
-
   its_own : row level p ≡ row asks i
-  its_own = ask_same (row level p) (row asks i) (at (λ a. a.run)) (at (λ a. a.inverse))
+  its_own = w.placed i l e
 
   abbrev last : ℕ
   last = m - 1
@@ -113,10 +90,10 @@ module _ {asks : List Ask} {P : ℕ → Bool} {before level : List Ask} {m : ℕ
             by_eq p last
             (λ z.
             let same = sum_ext H G last (λ q h. same_kept q (λ y. omega arith)) in
-            omega (arith, at f, ap G z))
+            omega (arith, ap f its_own, ap G z))
             (λ z.
             let same = sum_changed H G p last (omega (arith, place_inside)) (λ q _ ne. same_kept q ne) in
-            omega (arith, at f));
+            omega (arith, ap f its_own));
       }
 
   -- put back, the level is as it was

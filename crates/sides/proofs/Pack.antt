@@ -1,25 +1,23 @@
 -- Laws of packing a level: the rows of a set, one by one, until none is left.
 use Prim.Native.Nat.{ℕ, ◌+◌, ◌≤◌, ◌<◌}
 use mathlib.Core.Path.{◌≡◌, refl, sym, ap, ◌∙◌}
-use mathlib.Core.Bool.{Bool, true}
+use mathlib.Core.Bool.{Bool, true, false}
 use mathlib.Core.List.{List}
 use native.Mathlib.Omega.{arith}
 use native.Mathlib.Nat.{zero-add}
 use native.Mathlib.Numerals.{add-one}
-use lib.Dec.{eqb, ltb}
+use lib.Dec.{ltb}
 use lib.ListN.{length, set, get_or, length-set}
 use lib.Seq.{get_or-set_same, get_or-set_other}
-use borrow.Author.Tests.{ne_eqb, lt-ltb}
+use borrow.Author.Tests.{lt-ltb}
 use Rattle.counting.specs.Sum.{given, sum, count, without}
-use Rattle.counting.proofs.Cases.{by_bool, by_eq}
-use Rattle.counting.proofs.Sum.{count_all, count_le, count_none, count_without, sum_delta, sum_ext, sum_front, sum_without}
-use Rattle.counting.proofs.Sum.{without_elim}
+use Rattle.counting.proofs.Cases.{by_bool, by_eq, not_both}
+use Rattle.counting.proofs.Sum.{count_all, count_le, count_none, count_without, sum_ext, sum_front, sum_without}
+use Rattle.counting.proofs.Sum.{without_elim, without_intro}
 use Rattle.marks.specs.inside.Marks.{marked, Next, Less}
-use Rattle.marks.proofs.Marks.{sum_none_marked}
+use Rattle.marks.proofs.Marks.{none as unmarked, sum_none_marked}
 use Rattle.tables.specs.Table.{most_rows}
-use Rattle.sides.specs.declared.ask.Ask.{Ask}
-use Rattle.sides.specs.inside.Asks.{row}
-use Rattle.sides.specs.inside.Level.{Picked, Packed}
+use Rattle.sides.specs.inside.Level.{Picked}
 
 module _ {A : Type 0} (none : A) where
   -- what is summed over the first m rows of a level, by place and row
@@ -53,11 +51,15 @@ module _ {A : Type 0} (none : A) where
   unfolding count
   over_one level m = count_all m
 
--- the rows of rest are left, the others of the set are packed, and behind them the level is as before
+-- the rows of rest are left, each to come at the place that counts those of the set before it; the others of the set are
+-- packed, each at that place, and behind them the level is as before
 pub record Packing {A : Type 0} (asks : List A) (set : ℕ) (before level : List A) (m rest : ℕ) : Type 0 where
   pub whole : length level ≡ most_rows
   pub inside : (j : ℕ) → marked rest j ≡ true → j < length asks
   pub many : m + count (marked rest) (length asks) ≡ count (marked set) (length asks)
+  pub order : (k : ℕ) → marked rest k ≡ true → m + count (marked rest) k ≡ count (marked set) k
+  pub placed : (none : A) (k : ℕ) → marked set k ≡ true → marked rest k ≡ false →
+      (count (marked set) k < m) × (get_or level (count (marked set) k) none ≡ get_or asks k none)
   pub total : (none : A) (f : ℕ → A → ℕ) →
       over none level m f + picked none asks (marked rest) m f ≡ picked none asks (marked set) 0 f
   pub behind : (none : A) (k : ℕ) → m ≤ k → get_or level k none ≡ get_or before k none
@@ -71,6 +73,8 @@ module _ {A : Type 0} (asks : List A) (all : ℕ) (few : length asks ≤ most_ro
         whole = whole;
         inside = inside;
         many = zero-add _;
+        order = λ k _. zero-add _;
+        placed = λ none k e f. not_both (marked all k) f e;
         total = λ none f. omega arith;
         behind = λ none k _. refl;
       }
@@ -132,6 +136,24 @@ module _ {A : Type 0} (asks : List A) (all : ℕ) (few : length asks ≤ most_ro
             ap (f m) (get_or-set_same level m a none packing_fits) in
             omega (arith, w.total none f, over_more none (set level m a) m f, taken f)
 
+      -- each row that is packed stands at the place that counts those before it, and the next one takes the first free one
+      module _ (x : A) (is : (none : A) → x ≡ get_or asks j none) where
+        placed_more : (none : A) (k : ℕ) → marked all k ≡ true → without Q j k ≡ false →
+            (count (marked all) k < m + 1) × (get_or (set level m x) (count (marked all) k) none ≡ get_or asks k none)
+        placed_more none k e f =
+            by_eq k j
+            (λ z.
+            let here : count (marked all) k ≡ m = omega (arith, ap (count (marked all)) z, w.order j n.first.holds, first) in (
+              omega (arith, here),
+              rw (here, z) (get_or-set_same level m x none packing_fits ∙ is none),
+            ))
+            (λ z.
+            let old = w.placed none k e
+            (by_bool (Q k) (λ q. not_both (without Q j k) f (without_intro Q j k z q)) (λ q. q)) in (
+              omega (arith, old.0),
+              get_or-set_other level m (count (marked all) k) x none (λ y. omega (arith, old.0)) ∙ old.1,
+            ))
+
       pub packing_more : {r : ℕ} (x : A) → ((none : A) → x ≡ get_or asks j none) → Less rest j r →
           Packing asks all before (set level m x) (m + 1) r
       packing_more {r} x is l =
@@ -139,6 +161,12 @@ module _ {A : Type 0} (asks : List A) (all : ℕ) (few : length asks ≤ most_ro
             whole = length-set level m x ∙ w.whole;
             inside = λ k e. without_elim Q j k (ap (λ P. P k) (sym l.marks) ∙ e) (λ _ y. w.inside k y);
             many = omega (arith, w.many, fewer, ap (λ (P : ℕ → Bool). count P (length asks)) l.marks);
+            order =
+                λ k e.
+                let o : without Q j k ≡ true = ap (λ P. P k) (sym l.marks) ∙ e in
+                let h = without_elim Q j k o (λ _ q. w.order k q) in
+                omega (arith, next k o, h, ap (λ (P : ℕ → Bool). count P k) l.marks);
+            placed = λ none k e f. placed_more x is none k e (ap (λ P. P k) (sym l.marks) ∙ f);
             total =
                 λ none f.
                 omega (
@@ -151,15 +179,16 @@ module _ {A : Type 0} (asks : List A) (all : ℕ) (few : length asks ≤ most_ro
           }
 
     pub packing_all : rest ≡ 0 → (none : A) → Picked none asks (marked all) before level m
-    packing_all e none =
+    packing_all none_left none =
         record {
           few = packing_few;
+          placed = λ j _ e. (w.placed none j e (ap (λ r. marked r j) none_left ∙ unmarked j)).1;
           same =
               λ f. omega (
                 arith,
                 w.total none f,
                 picked_first none asks (marked all) f,
-                ap (λ r. picked none asks (marked r) m f) e,
+                ap (λ r. picked none asks (marked r) m f) none_left,
                 sum_none_marked (λ j. f (m + count (marked 0) j) (get_or asks j none)) (length asks),
               );
           rest = w.behind none;
@@ -179,17 +208,3 @@ packed_size {A} {none} {asks} {before} {level} {m} all x few inside =
     ∙ sum_front (λ j. given (marked all j) 1) n most_rows few
     ∙ sym (x.same (λ _ _. 1))
     ∙ over_one none level m
-
--- what stands at place p of a sum by places
-at_place : (h : ℕ → ℕ) (p m : ℕ) → p < m → sum (λ q. given (eqb p q) (h q)) m ≡ h p
-at_place h p m l =
-    sum_ext (λ q. given (eqb p q) (h q)) (λ q. given (eqb p q) (h p)) m
-    (λ q _. by_eq p q (λ e. rw e) (λ e. rw (ne_eqb p q e)))
-    ∙ sum_delta (h p) p m l
-
--- the row at place p is the one before which p rows of the set stand
-pub packed_row : {asks : List Ask} {P : ℕ → Bool} {before level : List Ask} {m : ℕ} → Packed asks P before level m →
-    (p : ℕ) → p < m → (g : Ask → ℕ) →
-    g (row level p) ≡ sum (λ j. given (P j) (given (eqb p (count P j)) (g (row asks j)))) (length asks)
-packed_row {level = level} {m = m} x p h g =
-    sym (at_place (λ q. g (row level q)) p m h) ∙ x.same (λ q a. given (eqb p q) (g a))

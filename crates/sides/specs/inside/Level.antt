@@ -1,5 +1,5 @@
 -- A level: what some rows ask with, packed at the front of an array and lent as a slice. The right sides over it.
-use Rattle.std.specs.Prelude.{ℕ, ◌+◌, ◌-◌, ◌≤◌, ◌≡◌, Bool, List, Option, Some, None, set, get_or, length, sum_by}
+use Rattle.std.specs.Prelude.{ℕ, ◌+◌, ◌-◌, ◌≤◌, ◌<◌, ◌≡◌, Bool, true, List, Option, Some, None, set, get_or, length, sum_by}
 use Rattle.counting.specs.Sum.{given, sum, count}
 use Rattle.tables.specs.Table.{most_rows}
 use Rattle.sides.specs.declared.ask.Ask.{Ask}
@@ -25,10 +25,11 @@ abbrev pub start_of : List Ask → ℕ → ℕ → ℕ
 start_of level base s = base + later level s
 
 -- the first m items of a list are those items of another at which P passes, each at the place that counts those before
--- it: what is summed over the ones, by place and item, is what is summed over the others. Behind them the list is as
+-- it; so what is summed over the ones, by place and item, is what is summed over the others. Behind them the list is as
 -- before. What stands past an end is `none`.
 pub record Picked {A : Type 0} (none : A) (items : List A) (P : ℕ → Bool) (before list : List A) (m : ℕ) : Type 0 where
   pub few : m ≤ most_rows
+  pub placed : (j : ℕ) → j < length items → P j ≡ true → get_or list (count P j) none ≡ get_or items j none
   pub same : (f : ℕ → A → ℕ) → sum (λ p. f p (get_or list p none)) m
       ≡ sum (λ j. given (P j) (f (count P j) (get_or items j none))) (length items)
   pub rest : (k : ℕ) → m ≤ k → get_or list k none ≡ get_or before k none
