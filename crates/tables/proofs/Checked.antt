@@ -1,5 +1,5 @@
 -- Laws of what the check functions answer.
-use Prim.Native.Nat.{ℕ, ◌+◌, ◌-◌, ◌*◌, ◌<◌}
+use Prim.Native.Nat.{ℕ, ◌+◌, ◌-◌, ◌*◌, ◌≤◌, ◌<◌}
 use mathlib.Core.Path.{◌≡◌, refl, sym, subst}
 use mathlib.Core.Bool.{Bool, true, false}
 use mathlib.Core.Logic.{◌⊎◌, ◌↔◌, inl, inr, ⊎_elim}
@@ -18,6 +18,11 @@ use Rattle.tables.specs.inside.Checked.{Says, FaultInRow}
 use Rattle.tables.specs.declared.task.Row.{Row}
 use Rattle.tables.proofs.Numbers.{by_number, number_in}
 use Rattle.tables.proofs.Plan.{cap_in_lem}
+
+-- the same question, put in another way
+pub says_map : {A B : Type 0} (b : Bool) → (A → B) → (B → A) → Says b A → Says b B
+says_map true f g a = f a
+says_map false f g n = λ b. n (g b)
 
 -- what a yes or a no says
 pub says_yes : {A : Type 0} (b : Bool) → b ≡ true → Says b A → A
@@ -94,6 +99,10 @@ module _ (tb : Table) (ps : List ℕ) (whole : length ps ≡ plan_width * tb.n) 
     (none : (j : ℕ) → j < i → RowAtFault tb (plan_of ps) j → ⊥) where
   pub plan_hit : i < tb.n → RowAtFault tb (plan_of ps) i → (plan_form tb ps).hits i
   plan_hit h f = inr (whole, first_here i (h, f) (λ j l e. none j l e.1))
+
+  pub plan_clear : tb.n ≤ i → Clear (plan_form tb ps)
+  plan_clear h place =
+      ⊎_elim (λ a. a.1 whole) (λ b. none place (let g = b.1.holds.0 in omega arith) b.1.holds.1)
 
 -- row i of a plan is at fault by its rank, or by its length against the row in the array
 module _ (rows : List Row) (n i : ℕ) (p : Plan) where

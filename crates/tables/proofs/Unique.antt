@@ -1,13 +1,15 @@
 -- Any two results that the promise of a function of this crate allows are equal.
 use Prim.Native.Nat.{ℕ}
-use mathlib.Core.Path.{◌≡◌, refl, sym, ap, ◌∙◌}
+use mathlib.Core.Path.{◌≡◌, refl, sym, ap, subst, ◌∙◌}
 use mathlib.Core.Logic.{⊎_elim}
 use mathlib.Core.List.{List, [], ◌∷◌}
 use lib.ListN.{length, get_or}
 use lib.Seq.{ext_get_or}
+use native.Mathlib.Bridge.{le_prop}
+use Rattle.std.proofs.Math.Nat.{ℕ_set}
 use Rattle.std.proofs.Common.{Ok, Err}
 use Rattle.std.specs.Prelude.{Result as OkOrErr}
-use Rattle.tables.specs.Table.{Table, row_width}
+use Rattle.tables.specs.Table.{Table, Within, SoundRow, Sound, row_width}
 use Rattle.tables.specs.Refusal.{Check, Result}
 use Rattle.tables.specs.Checks.{shape, range, plan_form}
 use Rattle.tables.specs.Answer.{Answer, Tells, refusal_number, refusal_place, result_of}
@@ -72,9 +74,52 @@ refused_by_unique (c ∷ cs) one r s p q =
     (λ a. ⊎_elim (λ b. absurd (a.0 (refusal_place s) b.1)) (λ b. refused_by_unique cs one.1 r s a.1 b.1) q)
     p
 
--- what two answers of the checks 1 and 3 have in common: one refusal, or one table
+-- the rows of a task table: two arrays of one length that hold one table
+pub rows_unique : (a b : List Row) (n : ℕ) → length a ≡ length b → table_in a n ≡ table_in b n → a ≡ b
+rows_unique a b n l e =
+    ext_get_or no a b l
+    (λ k h i. record { c = (e i).C k; d = (e i).D k; t = (e i).T k; start = (e i).S k; region = (e i).M k })
+
+-- a table is sound in one way
+within_one : {x : ℕ} → IsProp (Within x)
+within_one p q = λ i. record { low = le_prop p.low q.low i; high = le_prop p.high q.high i }
+
+sound_row_one : {tb : Table} {k : ℕ} → IsProp (SoundRow tb k)
+sound_row_one p q =
+    λ i. record {
+      C = within_one p.C q.C i;
+      D = within_one p.D q.D i;
+      T = within_one p.T q.T i;
+      region = le_prop p.region q.region i;
+      none = λ e. ℕ_set _ _ (p.none e) (q.none e) i;
+    }
+
+sound_one : {tb : Table} → IsProp (Sound tb)
+sound_one p q =
+    λ i. record {
+      some = le_prop p.some q.some i;
+      few = le_prop p.few q.few i;
+      row = λ k l. sound_row_one (p.row k l) (q.row k l) i;
+    }
+
+made : (rows : List Row) (n : ℕ) → Sound (table_in rows n) → Tasks
+made rows n s = record { rows = rows; n = n; sound = s }
+
+-- two tables of tasks of the same rows, as many, are the same
+tasks_same : (t u : Tasks) → t.rows ≡ u.rows → t.n ≡ u.n → t ≡ u
+unfolding made
+tasks_same t u r n =
+    subst (λ (x : List Row). (s : Sound (table_in x t.n)) → t ≡ made x t.n s) r
+    (λ s. ap (made t.rows t.n) (sound_one t.sound s)) (subst (λ m. Sound (table_in u.rows m)) (sym n) u.sound)
+    ∙ subst
+    (λ (m : ℕ). (s : Sound (table_in u.rows m)) →
+    made u.rows t.n (subst (λ m. Sound (table_in u.rows m)) (sym n) u.sound) ≡ made u.rows m s) n
+    (λ s. ap (made u.rows t.n) (sound_one (subst (λ m. Sound (table_in u.rows m)) (sym n) u.sound) s)) u.sound
+
+-- what two answers of the checks 1 and 3 have in common: one refusal, or one table, and the same rows where the arrays
+-- have as many places
 abbrev pub Alike : OkOrErr Tasks Refusal → OkOrErr Tasks Refusal → Type 0
-Alike (Ok t) (Ok u) = table_in t.rows t.n ≡ table_in u.rows u.n
+Alike (Ok t) (Ok u) = (table_in t.rows t.n ≡ table_in u.rows u.n) × (length t.rows ≡ length u.rows → t ≡ u)
 Alike (Err r) (Err s) = r ≡ s
 Alike (Ok t) (Err s) = ⊥
 Alike (Err r) (Ok u) = ⊥
@@ -87,7 +132,13 @@ refused_not_clear (c ∷ cs) r b clear =
 
 pub table_checked_unique : (xs : List ℕ) (a b : OkOrErr Tasks Refusal) → TableChecked xs a → TableChecked xs b →
     Alike a b
-table_checked_unique xs (Ok t) (Ok u) p q = p.1.same ∙ sym q.1.same
+table_checked_unique xs (Ok t) (Ok u) p q =
+    let e : table_in t.rows t.n ≡ table_in u.rows u.n = p.1.same ∙ sym q.1.same in
+    let n : t.n ≡ u.n = ap (λ tb. tb.n) e in (
+      e,
+      λ l. tasks_same t u
+          (rows_unique t.rows u.rows u.n l (subst (λ m. table_in t.rows m ≡ table_in u.rows u.n) n e)) n,
+    )
 table_checked_unique xs (Ok t) (Err s) p q = refused_not_clear (shape xs ∷ range xs ∷ []) s q p.0
 table_checked_unique xs (Err r) (Ok u) p q = refused_not_clear (shape xs ∷ range xs ∷ []) r p q.0
 table_checked_unique xs (Err r) (Err s) p q =
@@ -100,9 +151,3 @@ plan_checked_unique tb ps (Ok u) (Err s) p q = absurd (refused_not_clear (plan_f
 plan_checked_unique tb ps (Err r) (Ok u) p q = absurd (refused_not_clear (plan_form tb ps ∷ []) r p (q, tt))
 plan_checked_unique tb ps (Err r) (Err s) p q =
     ap Err (refused_by_unique (plan_form tb ps ∷ []) (plan_form_place tb ps, tt) r s p q)
-
--- the rows of a task table: two arrays of one length that hold one table
-pub rows_unique : (a b : List Row) (n : ℕ) → length a ≡ length b → table_in a n ≡ table_in b n → a ≡ b
-rows_unique a b n l e =
-    ext_get_or no a b l
-    (λ k h i. record { c = (e i).C k; d = (e i).D k; t = (e i).T k; start = (e i).S k; region = (e i).M k })
