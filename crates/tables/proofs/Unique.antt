@@ -125,7 +125,7 @@ Alike (Ok t) (Err s) = ⊥
 Alike (Err r) (Ok u) = ⊥
 
 -- a check that refuses is not clear
-refused_not_clear : (cs : List Check) (r : Refusal) → RefusedBy cs r → AllClear cs → ⊥
+pub refused_not_clear : (cs : List Check) (r : Refusal) → RefusedBy cs r → AllClear cs → ⊥
 refused_not_clear [] r b clear = b
 refused_not_clear (c ∷ cs) r b clear =
     ⊎_elim (λ h. clear.0 (refusal_place r) h.1) (λ h. refused_not_clear cs r h.1 clear.1) b

@@ -1,23 +1,39 @@
--- Any two answers that the promises of `times` and `verdict` allow are equal.
+-- Any two answers that the promises of `times`, `verdict` and `check_busy` allow are equal.
 use Prim.Native.Nat.{ℕ, ◌*◌, ◌/◌, ◌<◌}
-use mathlib.Core.Path.{◌≡◌, sym, ◌∙◌}
+use mathlib.Core.Path.{◌≡◌, sym, ap, ◌∙◌}
 use mathlib.Core.Logic.{⊎_elim}
-use mathlib.Core.List.{List, []}
+use mathlib.Core.List.{List, [], ◌∷◌}
 use native.Mathlib.Omega.{arith}
 use lib.ListN.{get_or}
 use lib.Seq.{ext_get_or}
+use Rattle.std.proofs.Common.{Ok, Err}
+use Rattle.std.specs.Prelude.{Result as OkOrErr}
 use Rattle.tables.specs.Table.{Table, table_of}
 use Rattle.tables.specs.Plan.{Plan, plan_of}
 use Rattle.tables.specs.Refusal.{Result}
 use Rattle.test.specs.Answers.{no_busy, TimesGiven, VerdictGiven, TimesAnswer, VerdictAnswer, times_width}
 use Rattle.test.specs.Answers.{time_in, times_checks, verdict_checks}
+use Rattle.tables.specs.declared.answer.Refusal.{Refusal}
+use Rattle.times.specs.inside.Given.{BusyChecked}
 use Rattle.counting.proofs.Cases.{by_le}
+use Rattle.counting.proofs.Least.{least_unique}
 use Rattle.tables.proofs.Answered.{OnePlace, OneGiven, bare_one, answered_unique, same_rest, shape_place, range_place}
 use Rattle.tables.proofs.Answered.{plan_form_place, room_place}
+use Rattle.tables.proofs.Unique.{refused_by_unique, refused_not_clear}
 use Rattle.test.proofs.Response.{response_unique}
+use Rattle.times.proofs.Busy.{busy_clear, busy_within}
 
 pub no_busy_place : (tb : Table) → OnePlace (no_busy tb)
 no_busy_place tb a b h g = h.0 ∙ sym g.0
+
+pub busy_checked_unique : (tb : Table) (a b : OkOrErr ℕ Refusal) → BusyChecked tb a → BusyChecked tb b → a ≡ b
+busy_checked_unique tb (Ok t) (Ok u) p q = ap Ok (least_unique p.0 q.0)
+busy_checked_unique tb (Ok t) (Err s) p q =
+    absurd (refused_not_clear (no_busy tb ∷ []) s q (busy_clear (busy_within t p), tt))
+busy_checked_unique tb (Err r) (Ok u) p q =
+    absurd (refused_not_clear (no_busy tb ∷ []) r p (busy_clear (busy_within u q), tt))
+busy_checked_unique tb (Err r) (Err s) p q =
+    ap Err (refused_by_unique (no_busy tb ∷ []) (no_busy_place tb, tt) r s p q)
 
 times_given_one : (tb : Table) (p : Plan) (out : List ℕ) → OneGiven (TimesGiven tb p out)
 times_given_one tb p out v w l m a b = (
