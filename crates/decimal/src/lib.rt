@@ -21,10 +21,12 @@ fn put_digits(digits: &mut [u8], x: u32)
     ensures { digits.new ≡ decimal x }
 {
     let mut rest = x;
-    for place in (0..digits.len()).rev() {
+    for place in (1..digits.len()).rev() {
         digits[place] = b'0' + (rest % 10) as u8;
         rest /= 10;
     }
+    // What is left is the first digit.
+    digits[0] = b'0' + rest as u8;
 }
 
 // A lent buffer, and the place behind what has been written to it.
