@@ -1,10 +1,11 @@
 -- Laws of a text in a buffer: its length, one text behind another, and that what was put is settled.
 use Prim.Native.Nat.{ℕ, ◌+◌, ◌≤◌}
 use mathlib.Core.Path.{◌≡◌, refl, sym, ap, ◌∙◌}
-use mathlib.Core.List.{List, [], ◌++◌, append_assoc}
+use mathlib.Core.List.{List, [], ◌∷◌, ◌++◌, append_assoc}
 use native.Mathlib.Omega.{arith}
-use lib.ListN.{length, take, drop, length-append, length-drop}
-use lib.Seq.{length-take-le, paste-zero, take_at, drop_at, drop-drop}
+use native.Mathlib.Numerals.{add-one}
+use lib.ListN.{length, get_or, take, drop, set, length-append, length-drop}
+use lib.Seq.{take-suc, set_at, length-take-le, paste-zero, take_at, drop_at, drop-drop}
 use Rattle.decimal.specs.inside.Placed.{placed, Put, Room, Writes}
 use Rattle.decimal.specs.declared.Written.{Written}
 
@@ -23,6 +24,15 @@ module _ (b : List ℕ) (at : ℕ) (t : List ℕ) (fits : at + length t ≤ leng
       let front = take_at (take at b ++ t) (drop n b) n front_length in
       let rest = drop_at (take at b ++ t) (drop n b) n front_length in
       rw (front, ← drop-drop (length u) n (placed b at t), rest, drop-drop, e, append_assoc (take at b) t u)
+
+-- a byte before the text t
+pub placed_before : (b : List ℕ) (at v : ℕ) (t : List ℕ) → at + 1 + length t ≤ length b →
+    set (placed b (at + 1) t) at v ≡ placed b at (v ∷ t)
+placed_before b at v t fits =
+    let n : length (take at b) ≡ at = length-take-le at b (omega arith) in
+    let first : take (at + 1) b ≡ take at b ++ get_or b at 0 ∷ [] = rw add-one (take-suc b at 0 (omega arith)) in
+    let m : at + length (v ∷ t) ≡ at + 1 + length t = omega arith in
+    rw (first, m) (simp append_assoc (set_at (take at b) (get_or b at 0) (t ++ drop (at + 1 + length t) b) v at n))
 
 -- a text put behind a text that was put
 pub put_behind : {b t c u d : List ℕ} {at m n : ℕ} → at + length t ≤ length b → Put b at t c m → Put c m u d n →

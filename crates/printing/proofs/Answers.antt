@@ -50,6 +50,13 @@ module _ (planned out : List ℕ) where
         g.1.given.many,
       )
 
+  -- what fit refuses is refused by print, and nothing is written
+  pub print_refused : {r : Result} → FitAnswer planned (length out) r → (r.number ≡ 0 → ⊥) →
+      PrintAnswer planned out (leaving out r)
+  print_refused {r} a n =
+      leave (fit_checks planned (length out)) (FitGiven planned) (PrintGiven planned out) [] out r
+      (λ g. absurd (n g.number)) a
+
   -- what print answers is fit's answer
   pub fit_of_print : {r : Result} → PrintAnswer planned out r → FitAnswer planned (length out) (leaving [] r)
   fit_of_print {r} a =
@@ -70,6 +77,14 @@ module _ (planned out : List ℕ) where
             rw (g.whole, g.many, take-append_seam);
         refused = λ n. rw (none a n);
       }
+
+  -- and it is no longer than the buffer
+  pub front_within : {r : Result} → PrintAnswer planned out r → length r.out ≡ length out →
+      r.value ≤ length r.out
+  front_within {r} a e =
+      by_eq r.number 0
+      (λ z. let g = fit_given (fit_of_print a) z in omega arith)
+      (λ n. omega (arith, none a n))
 
 -- any two answers are equal
 room_in_place : (needed len : ℕ) → OnePlace (room_in needed len)

@@ -3,3 +3,4 @@ pub mod Printed
 pub mod Answers
 pub mod Most
 pub mod Inverse
+pub mod Unique

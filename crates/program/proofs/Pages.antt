@@ -1,5 +1,5 @@
 -- Laws of the page of a text: what is given has the shape and the length for the next step, and one text has one page.
-use Prim.Native.Nat.{ℕ, ◌≤◌, ◌<◌}
+use Prim.Native.Nat.{ℕ, ◌*◌, ◌≤◌, ◌<◌}
 use mathlib.Core.Path.{◌≡◌, refl, sym, ap, ◌∙◌, subst}
 use mathlib.Core.Logic.{⊎_elim}
 use mathlib.Core.List.{List}
@@ -7,14 +7,15 @@ use native.Mathlib.Omega.{arith}
 use lib.ListN.{length, take}
 use lib.Seq.{length-take-le}
 use Rattle.counting.proofs.Cases.{by_eq}
-use Rattle.tables.specs.Table.{row_width, table_of}
+use Rattle.tables.specs.Table.{row_width, most_rows, table_of}
 use Rattle.tables.specs.Refusal.{Result, bare}
 use Rattle.tables.specs.Checks.{Rows}
 use Rattle.tables.proofs.Answered.{granted, clear_at}
 use Rattle.tables.proofs.Clear.{rows_of_shape}
 use Rattle.choice.specs.Answers.{planned_width, PlanGiven, plan_checks, PlanAnswer}
-use Rattle.sheet.specs.Answers.{SheetAnswer}
-use Rattle.sheet.proofs.Fronts.{longest_sheet}
+use Rattle.sheet.specs.Sheet.{ticks_of}
+use Rattle.sheet.specs.Answers.{SheetGiven, ticks_checks, SheetAnswer}
+use Rattle.sheet.proofs.Fronts.{longest_sheet, length_ticks}
 use Rattle.printing.specs.Printed.{plan_text, refused_line}
 use Rattle.printing.specs.Answers.{PrintFront}
 use Rattle.plan.proofs.Unique.{plan_unique}
@@ -43,6 +44,20 @@ plan_rows table r a z =
         few = omega arith;
       },
     )
+
+-- a table that is given by sheet is within its output
+pub sheet_within : (text : List ℕ) (r : Result) → SheetAnswer text (blank row_width) r → r.number ≡ 0 →
+    r.value ≤ row_width * most_rows
+sheet_within text r a z =
+    ⊎_elim
+    (λ x. absurd (omega (arith, x.number)))
+    (λ x.
+    let ticks = ticks_of x.0 x.1 in
+    let g = granted bare (ticks_checks ticks (blank row_width)) (SheetGiven ticks (blank row_width)) (blank row_width) r
+    refl z x.3 in
+    let v = g.1.given.many in
+    let f = x.2.formed.few in omega (arith, length_ticks x.0 x.1))
+    a
 
 -- with room for it, print gives the text
 pub front_given : (planned : List ℕ) (len : ℕ) (front : List ℕ) → Rows planned_width planned →

@@ -1,12 +1,12 @@
 -- Laws of reading in turns: what each turn reads stands behind what was read before, and the page of what was read is the
 -- page of the whole input.
-use Rattle.std.proofs.Common.{◌≡◌, ℕ, ◌+◌, ◌≤◌, ◌<◌, List, [], ◌++◌, arith, length, take, drop, sym, ap, ◌∙◌, subst, drop_at, length-take-le, take_all}
+use Rattle.std.proofs.Common.{◌≡◌, ℕ, ◌+◌, ◌≤◌, ◌<◌, List, [], ◌++◌, arith, length, take, drop, sym, ap, ◌∙◌, refl, subst, drop_at, length-take-le, take_all}
 use Rattle.std.specs.declared.option.Option.{Option}
 use Rattle.std.specs.declared.option.Option.TheVariants.{None, Some}
 use Rattle.std.specs.declared.result.Result.{Result}
 use Rattle.std.specs.declared.result.Result.TheVariants.{Ok, Err}
 use Rattle.std.specs.Result.{MatchResult, IfOk, IsErrAnd}
-use Rattle.std.specs.Io.KnownBytes.{Consumes, Appends, IsAtEnd}
+use Rattle.std.specs.Io.KnownBytes.{Consumes, Appends, Keeps, IsAtEnd}
 use Rattle.std.proofs.lemmas.Slice.{take-put_mid_below}
 use Rattle.std.proofs.lemmas.List.{append-nil}
 use Rattle.std.proofs.lemmas.Result.{err_from_is_err_and}
@@ -19,6 +19,11 @@ use Rattle.program.specs.Reply.{Page}
 use Rattle.program.specs.Run.{WritesPage}
 use Rattle.sheet.proofs.Fronts.{longest_sheet}
 use Rattle.program.proofs.Pages.{page_cut}
+
+-- what nothing is written to stays as it was
+pub keeps_same : (a : Option (List ℕ)) → Keeps a a
+keeps_same None = tt
+keeps_same (Some x) = refl
 
 -- the front of a buffer after a read of k bytes behind its first n
 pub read_front : (n room k : ℕ) (buf got : List ℕ) → n ≤ length buf → k ≤ length got

@@ -5,7 +5,7 @@ ghost use Rattle.std.specs.Prelude.{◌≡◌, ◌+◌, ◌≤◌, length};
 ghost use Rattle.reading.specs.inside.Grow.{Grows};
 
 // A text, and the place up to which it has been read.
-#[derive(Drop)]
+#[derive(Clone, Copy)]
 pub struct Cursor<'a> {
     pub text: &'a [u8],
     pub at: usize,

@@ -10,8 +10,9 @@ use lib.Seq.{take_at, take_all, take-take, length-take-le}
 use Rattle.counting.proofs.Cases.{by_le}
 use Rattle.tables.specs.Table.{row_width}
 use Rattle.tables.specs.Refusal.{Result}
+use Rattle.tables.specs.Checks.{Rows}
 use Rattle.tables.proofs.Answered.{OnePlace, bare_one, answered_unique, result_same, range_place, room_place}
-use Rattle.sheet.specs.Sheet.{Task, Sheet, LongestPrefix, ticks_of}
+use Rattle.sheet.specs.Sheet.{Task, WellFormed, Sheet, LongestPrefix, ticks_of}
 use Rattle.sheet.specs.Answers.{sheet_form, SheetGiven, ticks_checks, TicksAnswer, SheetAnswer}
 use Rattle.sheet.specs.inside.Read.{ReadsTasks, ReadsSheet}
 use Rattle.std.proofs.Common.{Result as OkOrErr, Ok, Err}
@@ -27,6 +28,9 @@ reads_sheet s tick before table (Err place) h = h
 
 -- the table of a well-formed sheet
 module _ (tick : ℕ) (ts : List Task) where
+  pub ticks_rows : WellFormed tick ts → Rows row_width (ticks_of tick ts)
+  ticks_rows w = record { n = length ts; whole = length_ticks tick ts; some = w.some; few = w.few }
+
   pub ticks_front : (n : ℕ) (table rest : List ℕ) → length ts ≡ n → table ≡ ticks_of tick ts ++ rest →
       take (row_width * n) table ≡ ticks_of tick ts
   ticks_front n table rest e f =

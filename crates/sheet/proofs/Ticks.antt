@@ -4,19 +4,23 @@ use mathlib.Core.Path.{◌≡◌, ap, ◌∙◌}
 use mathlib.Core.Option.{some, some-injective, none-ne-some}
 use mathlib.Core.List.{List, [], ◌∷◌, ◌++◌, append_assoc, append-nil}
 use native.Mathlib.Omega.{arith}
-use native.Mathlib.Nat.{zero-add, mul-le-mul_left}
+use native.Mathlib.Nat.{zero-add, mul-le-mul_left, div-le_self}
 use lib.ListN.{length, get_or, drop, get_elem?, drop_of_length-le, get_or-append}
 use lib.Seq.{sets, sets-eq, take_at, drop_at, drop-drop, get_or-append-add}
 use borrow.Rule.Slice.PartMut.{put_mid}
 use Rattle.counting.specs.Up.{up}
 use Rattle.counting.proofs.Up.{div_mono, up_le}
 use Rattle.tables.specs.Table.{row_width}
-use Rattle.sheet.specs.Sheet.{Task, row_of, ticks_of}
+use Rattle.sheet.specs.Sheet.{Task, longest_time, row_of, ticks_of}
 use Rattle.sheet.proofs.Fronts.{ticks_more, length_ticks}
 
 -- ticks are no more than microseconds
 pub up_small : (x d : ℕ) → 1 ≤ d → up x d ≤ x
 up_small x d h = up_le x x h (omega (arith, mul-le-mul_left x h))
+
+-- a time divided, whatever by, has 32 bits
+pub quotient_fits : (x d : ℕ) → x ≤ longest_time → x / d < 4294967296
+quotient_fits x d h = omega (arith, div-le_self x d)
 
 -- a region's start rounded down is no later than its end rounded up
 pub start_end : (x y d : ℕ) → x / d ≤ up (x + y) d

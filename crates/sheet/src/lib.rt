@@ -16,25 +16,25 @@ use tables::{Answer, MOST_ROWS, ROW_WIDTH, Refusal};
 
 // Start and length of a region, in microseconds.
 #[derive(Clone, Copy)]
-struct RegionTimes {
-    start: u64,
-    length: u64,
+pub struct RegionTimes {
+    pub start: u64,
+    pub length: u64,
 }
 
 // What a line `task C D T` says, in microseconds, and its region where it has one.
 #[derive(Clone, Copy)]
-struct Times {
-    c: u64,
-    d: u64,
-    t: u64,
-    region: Option<RegionTimes>,
+pub struct Times {
+    pub c: u64,
+    pub d: u64,
+    pub t: u64,
+    pub region: Option<RegionTimes>,
 }
 
 // Start and length of a region in ticks.
 #[derive(Clone, Copy)]
-struct RegionTicks {
-    start: u32,
-    length: u32,
+pub struct RegionTicks {
+    pub start: u32,
+    pub length: u32,
 }
 
 const TICK: u64 = 1000;

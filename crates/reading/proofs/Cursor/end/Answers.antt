@@ -43,7 +43,7 @@ returns-in-Some c = (
 
 pub returns-in_default : goal.returns-in_default
 returns-in_default c = (
-  refl,
+  omega arith,
   refl,
   refl,
   λ e u o g.
