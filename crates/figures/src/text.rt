@@ -1,5 +1,5 @@
 // How numbers, rows and answers are written.
-ghost use Rattle.std.specs.Prelude.{◌<◌};
+ghost use Rattle.std.specs.Prelude.{◌≡◌, ◌<◌};
 
 use std::fmt;
 use tables::Said;
@@ -32,6 +32,7 @@ pub struct Rows<'a> {
 impl<'a> Rows<'a> {
     pub fn of(numbers: &'a [u32], width: usize) -> Self
         requires { 0 < width }
+        ensures { (result.numbers.now ≡ numbers.now) × (result.width ≡ width) }
     {
         Rows { numbers, width }
     }
