@@ -1,7 +1,7 @@
 -- Laws of decimal text: how one digit more is appended, and how long it is.
 use Prim.Native.Nat.{ℕ, zero, suc, ◌+◌, ◌*◌, ◌/◌, ◌%◌, ◌^◌, ◌≤◌, ◌<◌}
 use mathlib.Core.Path.{◌≡◌, refl, ap, ◌∙◌}
-use mathlib.Core.List.{List, [], ◌∷◌, ◌++◌}
+use mathlib.Core.List.{[], ◌∷◌, ◌++◌}
 use native.Mathlib.Omega.{arith}
 use native.Mathlib.Nat.{pow-suc}
 use lib.ListN.{length, length-append}
@@ -51,14 +51,6 @@ decimal_small (suc x) p =
 pub decimal_big : (x : ℕ) → 10 ≤ x → decimal x ≡ decimal (x / 10) ++ (nought + x % 10) ∷ []
 decimal_big x p =
     rw (decimal_digits x (omega arith), decimal_digits (x / 10) (omega arith)) (digits_last x (omega arith))
-
--- the last digit of a number, and what stands in front of it: the tenth, or nothing
-pub decimal_last : (x : ℕ) → (front : List ℕ) × (decimal x ≡ front ++ (nought + x % 10) ∷ [])
-    × (1 ≤ length front → front ≡ decimal (x / 10))
-decimal_last x =
-    by_le 10 x
-    (λ p. (decimal (x / 10), decimal_big x p, λ _. refl))
-    (λ p. let same : x % 10 ≡ x = omega arith in ([], rw same (decimal_small x p), λ h. absurd (omega arith)))
 
 pub length_small : (x : ℕ) → x < 10 → length (decimal x) ≡ 1
 length_small x p = ap length (decimal_small x p)

@@ -20,13 +20,11 @@ fn put_digits(digits: &mut [u8], x: u32)
     requires { length digits.old ≡ length (decimal x) }
     ensures { digits.new ≡ decimal x }
 {
-    let mut rest = x;
-    for place in (1..digits.len()).rev() {
-        digits[place] = b'0' + (rest % 10) as u8;
-        rest /= 10;
+    let last = digits.len() - 1;
+    digits[last] = b'0' + (x % 10) as u8;
+    if 10 <= x {
+        put_digits(&mut digits[..last], x / 10);
     }
-    // What is left is the first digit.
-    digits[0] = b'0' + rest as u8;
 }
 
 // A lent buffer, and the place behind what has been written to it.
