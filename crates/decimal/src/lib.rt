@@ -20,11 +20,13 @@ fn put_digits(digits: &mut [u8], x: u32)
     requires { length digits.old ≡ length (decimal x) }
     ensures { digits.new ≡ decimal x }
 {
+    if x < 10 {
+        digits[0] = b'0' + x as u8;
+        return;
+    }
     let last = digits.len() - 1;
     digits[last] = b'0' + (x % 10) as u8;
-    if 10 <= x {
-        put_digits(&mut digits[..last], x / 10);
-    }
+    put_digits(&mut digits[..last], x / 10);
 }
 
 // A lent buffer, and the place behind what has been written to it.

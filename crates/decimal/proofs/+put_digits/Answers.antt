@@ -15,10 +15,19 @@ last_alone l v h =
     let behind = drop_of_length-le l {i = length l - 1 + 1} (omega arith) in
     drop-set l (length l - 1) v (omega arith) ∙ ap (λ r. v ∷ r) behind
 
-one_alone : (l : List ℕ) (v : ℕ) → length l ≡ 1 → set l (length l - 1) v ≡ v ∷ []
+one_alone : (l : List ℕ) (v : ℕ) → length l ≡ 1 → set l 0 v ≡ v ∷ []
 one_alone [] v h = absurd (omega (arith, h))
 one_alone (d ∷ []) v h = refl
 one_alone (d ∷ e ∷ l) v h = absurd (omega (arith, h))
+
+pub bounds-digits-0 : goal.bounds-digits-0
+bounds-digits-0 t c = omega (arith, some c.args.x)
+
+pub returns-then-x-lt10 : goal.returns-then-x-lt10
+returns-then-x-lt10 t c =
+    let x = c.args.x in
+    let small = c.if-x-lt10.true in
+    one_alone c.args.digits.now (48 + x) (c.requires ∙ length_small x small) ∙ sym (decimal_small x small)
 
 pub overflow_sub-last : goal.overflow_sub-last
 overflow_sub-last t c = omega (arith, some c.args.x)
@@ -32,16 +41,9 @@ put_digits-requires t c =
     let last = length l - 1 in
     let v = 48 + c.args.x % 10 in
     let front = length-take-le last (set l last v) (omega (arith, length-set l last v)) in
-    (omega arith, omega (arith, front, length_big c.args.x c.if-x-ge10.true))
+    (omega arith, omega (arith, front, length_big c.args.x c.if-x-lt10.false))
 
-pub returns-then-x-ge10 : goal.returns-then-x-ge10
-returns-then-x-ge10 t c =
+pub returns : goal.returns
+returns t c =
     rw (c.put_digits.ensures, last_alone c.args.digits.now (48 + c.args.x % 10) (omega (arith, some c.args.x)))
-    (sym (decimal_big c.args.x c.if-x-ge10.true))
-
-pub returns-else-x-ge10 : goal.returns-else-x-ge10
-returns-else-x-ge10 t c =
-    let x = c.args.x in
-    let same : x % 10 ≡ x = omega arith in
-    one_alone c.args.digits.now (48 + x % 10) (c.requires ∙ length_small x (omega arith))
-    ∙ rw same (sym (decimal_small x (omega arith)))
+    (sym (decimal_big c.args.x c.if-x-lt10.false))
