@@ -8,7 +8,7 @@
  * The library keeps no state, allocates nothing, and may be called from several threads at once. It
  * calls two functions of the C library, memcpy and memset, and nothing else outside itself. Every call
  * ends. 4,096 bytes of stack are enough for each, what memcpy and memset take in glibc included;
- * tb_verdict takes the most, 3,960 bytes, the return addresses among them. No bound on a call's time is
+ * tb_plan takes the most, 3,912 bytes, the return addresses among them. No bound on a call's time is
  * proved. The longest that a search for slow tables found is 0.03 seconds of processor time, of tb_plan
  * on a server's Xeon for a table of 32 rows, in an archive of the same steps that an older kit made;
  * there may be slower ones.
