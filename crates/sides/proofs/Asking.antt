@@ -6,7 +6,7 @@ use mathlib.Core.List.{List}
 use native.Mathlib.Omega.{arith}
 use native.Mathlib.Nat.{mul-le-mul, div-eq_of_lt}
 use lib.Dec.{ltb}
-use lib.ListN.{length, take}
+use lib.ListN.{length, take, get_or}
 use lib.Seq.{length-take-le, get_or-take}
 use borrow.Author.Tests.{lt-ltb, le-ltb}
 use Rattle.counting.specs.Sum.{given, sum}
@@ -16,40 +16,40 @@ use Rattle.tables.specs.Table.{Table, Sound, most, most_rows}
 use Rattle.test.specs.Test.{horizon, upto, load, every_row}
 use Rattle.sides.specs.declared.ask.Ask.{Ask}
 use Rattle.sides.specs.inside.Asks.{nothing, row, run, part_of, again, Asks}
-use Rattle.sides.specs.inside.Level.{runs_of, later, Packed}
+use Rattle.sides.specs.inside.Level.{runs_of, later, Picked, Packed}
 use Rattle.sides.proofs.Inverse.{by_inverse}
 use Rattle.sides.proofs.Level.{Asking}
 use Rattle.sides.proofs.Pack.{over_same}
 use Rattle.sides.proofs.Rows.{over_rows}
 
--- the first m rows of the level are those rows of the asks at which P passes, whatever their places
-pub record Holding (asks : List Ask) (P : ℕ → Bool) (level : List Ask) (m : ℕ) : Type 0 where
+-- the first m rows of the level are those rows of the asks at which P passes, whatever their places and their kind
+pub record Holding {A : Type 0} (none : A) (asks : List A) (P : ℕ → Bool) (level : List A) (m : ℕ) : Type 0 where
   pub few : m ≤ most_rows
-  pub same : (f : Ask → ℕ) → sum (λ p. f (row level p)) m
-      ≡ sum (λ j. given (P j) (f (row asks j))) (length asks)
+  pub same : (f : A → ℕ) → sum (λ p. f (get_or level p none)) m
+      ≡ sum (λ j. given (P j) (f (get_or asks j none))) (length asks)
 
-pub packed_holding : {asks : List Ask} {P : ℕ → Bool} {before level : List Ask} {m : ℕ} → Packed asks P before level m →
-    Holding asks P level m
+pub packed_holding : {A : Type 0} {none : A} {asks : List A} {P : ℕ → Bool} {before level : List A} {m : ℕ} →
+    Picked none asks P before level m → Holding none asks P level m
 packed_holding w = record { few = w.few; same = λ f. w.same (λ _ a. f a) }
 
-module _ {asks : List Ask} {P : ℕ → Bool} {level : List Ask} {m : ℕ} (w : Holding asks P level m)
-  where
-    -- the packed rows as a slice
-    front_many : length level ≡ most_rows → length (take m level) ≡ m
-    front_many whole = length-take-le m level (omega (arith, w.few))
+module _ {A : Type 0} {none : A} {asks : List A} {P : ℕ → Bool} {level : List A} {m : ℕ}
+    (w : Holding none asks P level m) where
+  -- the packed rows as a slice
+  front_many : length level ≡ most_rows → length (take m level) ≡ m
+  front_many whole = length-take-le m level (omega (arith, w.few))
 
-    front : (f : Ask → ℕ) → sum (λ p. f (row (take m level) p)) m ≡ sum (λ p. f (row level p)) m
-    front f = over_same nothing (take m level) level m (λ p h. get_or-take m level p nothing h) (λ _ a. f a)
+  front : (f : A → ℕ) → sum (λ p. f (get_or (take m level) p none)) m ≡ sum (λ p. f (get_or level p none)) m
+  front f = over_same none (take m level) level m (λ p h. get_or-take m level p none h) (λ _ a. f a)
 
-    pub held_front : length level ≡ most_rows →
-        let l = take m level in Holding asks P l (length l)
-    held_front whole =
-        let l = take m level in
-        let e = front_many whole in
-        record {
-          few = omega (arith, e, w.few);
-          same = λ f. ap (sum (λ p. f (row l p))) e ∙ front f ∙ w.same f;
-        }
+  pub held_front : length level ≡ most_rows →
+      let l = take m level in Holding none asks P l (length l)
+  held_front whole =
+      let l = take m level in
+      let e = front_many whole in
+      record {
+        few = omega (arith, e, w.few);
+        same = λ f. ap (sum (λ p. f (get_or l p none))) e ∙ front f ∙ w.same f;
+      }
 
 -- of the rows at which P passes those are kept, at which Q passes, that are released again before the bound
 abbrev pub Kept : Table → (ℕ → Bool) → ℕ → (ℕ → Bool) → Type 0
@@ -73,7 +73,7 @@ module _ {tb : Table} {asks : List Ask} (sound : Sound tb) (a : Asks tb asks) wh
 
   -- the level holds the rows at which P passes and that are released again before the bound
   module _ {P : ℕ → Bool} {bound : ℕ} (within : bound ≤ horizon + 1) where
-    asking_of : {Q : ℕ → Bool} {level : List Ask} → Kept tb P bound Q → Holding asks Q level (length level) →
+    asking_of : {Q : ℕ → Bool} {level : List Ask} → Kept tb P bound Q → Holding nothing asks Q level (length level) →
         Asking tb P bound level
     unfolding later load
     asking_of {Q} {level} kept w =
@@ -100,7 +100,7 @@ module _ {tb : Table} {asks : List Ask} (sound : Sound tb) (a : Asks tb asks) wh
 
     -- the rows that are held at the front of an array
     pub asking_held : {Q : ℕ → Bool} {level : List Ask} {m : ℕ} → Kept tb P bound Q →
-        length level ≡ most_rows → Holding asks Q level m →
+        length level ≡ most_rows → Holding nothing asks Q level m →
         Asking tb P bound (take (m) level)
     asking_held kept whole w = asking_of kept (held_front w whole)
 
@@ -123,7 +123,7 @@ module _ {tb : Table} {asks : List Ask} (sound : Sound tb) (a : Asks tb asks) wh
       (record { few = omega (arith, rows, sound.few); same = λ f. refl })
 
   -- the runs of the rows that are held are what they ask for in the first tick
-  runs_held : {P : ℕ → Bool} {level : List Ask} → Holding asks P level (length level) → runs_of level ≡ load upto tb P 0
+  runs_held : {P : ℕ → Bool} {level : List Ask} → Holding nothing asks P level (length level) → runs_of level ≡ load upto tb P 0
   unfolding runs_of load
   runs_held {P} {level} w =
       over_rows (λ a. a.run) level

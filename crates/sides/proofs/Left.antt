@@ -6,19 +6,17 @@ use mathlib.Core.Bool.{Bool, true, false}
 use mathlib.Core.List.{List}
 use native.Mathlib.Omega.{arith}
 use lib.Dec.{eqb}
-use lib.ListN.{length, set, length-set}
+use lib.ListN.{length, set, get_or, length-set}
 use lib.Seq.{ext_get_or, get_or-set_same, get_or-set_other}
 use Rattle.std.specs.Prelude.{Option, Some, None, IfSome}
 use borrow.Author.Tests.{eq-eqb, ne_eqb}
 use Rattle.counting.specs.Sum.{given, sum, count, without}
-use Rattle.counting.proofs.Cases.{by_bool, by_eq, by_le}
-use Rattle.counting.proofs.Sum.{sum_ext, sum_add, sum_delta, sum_without, sum_more, sum_zero, given_yes, given_no}
-use Rattle.counting.proofs.Sum.{without_elim, is_without}
+use Rattle.counting.proofs.Cases.{by_eq}
+use Rattle.counting.proofs.Sum.{sum_ext, sum_add, sum_delta, sum_without, sum_more, given_yes}
+use Rattle.counting.proofs.Sum.{is_without}
 use Rattle.tables.specs.Table.{most_rows}
-use Rattle.sides.specs.declared.ask.Ask.{Ask}
-use Rattle.sides.specs.inside.Asks.{nothing, row}
 use Rattle.marks.specs.inside.Marks.{marked, Placed}
-use Rattle.sides.specs.inside.Level.{Packed, LeftOut, PutBack}
+use Rattle.sides.specs.inside.Level.{Picked, Vacated, PutBack}
 use Rattle.sides.proofs.Pack.{over_one}
 use Rattle.sides.proofs.Asking.{Holding, packed_holding}
 
@@ -45,46 +43,46 @@ count_lt : (P : ℕ → Bool) (j i : ℕ) → j < i → P j ≡ true → count P
 unfolding count sum
 count_lt P j i l e = omega (arith, sum_more (λ k. given (P k) 1) (suc j) i l, given_yes (P j) 1 e)
 
-module _ {asks : List Ask} {P : ℕ → Bool} {before level : List Ask} {m : ℕ} (w : Packed asks P before level m)
-    (whole : length level ≡ most_rows) (i : ℕ) (l : i < length asks) (e : P i ≡ true) where
+module _ {A : Type 0} {none : A} {asks : List A} {P : ℕ → Bool} {before level : List A} {m : ℕ}
+    (w : Picked none asks P before level m) (whole : length level ≡ most_rows) (i : ℕ) (l : i < length asks) (e : P i ≡ true) where
   abbrev p : ℕ
   p = count P i
 
   pub place_inside : p < m
   unfolding count
-  place_inside = omega (arith, w.same (λ _ _. 1), over_one nothing level m, count_lt P i (length asks) l e)
+  place_inside = omega (arith, w.same (λ _ _. 1), over_one none level m, count_lt P i (length asks) l e)
 
   -- it is row i that stands at its place
-  its_own : row level p ≡ row asks i
+  its_own : get_or level p none ≡ get_or asks i none
   its_own = w.placed i l e
 
   abbrev last : ℕ
   last = m - 1
 
-  abbrev left : List Ask
-  left = set level p (row level last)
+  abbrev left : List A
+  left = set level p (get_or level last none)
 
-  kept : (q : ℕ) → ¬ (q ≡ p) → row left q ≡ row level q
-  kept q ne = get_or-set_other level p q (row level last) nothing ne
+  kept : (q : ℕ) → ¬ (q ≡ p) → get_or left q none ≡ get_or level q none
+  kept q ne = get_or-set_other level p q (get_or level last none) none ne
 
-  moved : row left p ≡ row level last
-  moved = get_or-set_same level p (row level last) nothing (omega (arith, whole, w.few, place_inside))
+  moved : get_or left p none ≡ get_or level last none
+  moved = get_or-set_same level p (get_or level last none) none (omega (arith, whole, w.few, place_inside))
 
   -- the rows that stay are the others
-  pub left_holding : Holding asks (without P i) left last
+  pub left_holding : Holding none asks (without P i) left last
   unfolding sum
   left_holding =
       record {
         few = omega (arith, w.few);
         same =
             λ f.
-            let G : ℕ → ℕ = λ q. f (row level q) in
-            let H : ℕ → ℕ = λ q. f (row left q) in
+            let G : ℕ → ℕ = λ q. f (get_or level q none) in
+            let H : ℕ → ℕ = λ q. f (get_or left q none) in
             let same_kept : (q : ℕ) → ¬ (q ≡ p) → H q ≡ G q = λ q ne. ap f (kept q ne) in
             let same_moved : H p ≡ G last = ap f moved in
             let one_more : suc last ≡ m = omega (arith, place_inside) in
             let all : sum G m ≡ sum G last + G last = ap (sum G) (sym one_more) in
-            let F : ℕ → ℕ = λ j. f (row asks j) in
+            let F : ℕ → ℕ = λ j. f (get_or asks j none) in
             let total = w.same (λ _ a. f a) in
             let out = sum_without P i F (length asks) l e in
             by_eq p last
@@ -97,29 +95,29 @@ module _ {asks : List Ask} {P : ℕ → Bool} {before level : List Ask} {m : ℕ
       }
 
   -- put back, the level is as it was
-  pub back_same : set left p (row asks i) ≡ level
+  pub back_same : set left p (get_or asks i none) ≡ level
   back_same =
-      let long = length-set level p (row level last) in
-      ext_get_or nothing (set left p (row asks i)) level
-      (length-set left p (row asks i) ∙ long)
+      let long = length-set level p (get_or level last none) in
+      ext_get_or none (set left p (get_or asks i none)) level
+      (length-set left p (get_or asks i none) ∙ long)
       (λ k _.
       by_eq k p
-      (λ z. rw z (get_or-set_same left p (row asks i) nothing (omega (arith, long, whole, w.few, place_inside))
+      (λ z. rw z (get_or-set_same left p (get_or asks i none) none (omega (arith, long, whole, w.few, place_inside))
       ∙ sym its_own))
-      (λ z. get_or-set_other left p k (row asks i) nothing z ∙ kept k z))
+      (λ z. get_or-set_other left p k (get_or asks i none) none z ∙ kept k z))
 
 -- whether row i stands in the level, at its place, or not
-module _ (set : ℕ) {asks before level : List Ask} {m : ℕ} (w : Packed asks (marked set) before level m)
-    (whole : length level ≡ most_rows) (i : ℕ) (l : i < length asks) where
+module _ (set : ℕ) {A : Type 0} {none : A} {asks before level : List A} {m : ℕ}
+    (w : Picked none asks (marked set) before level m) (whole : length level ≡ most_rows) (i : ℕ) (l : i < length asks) where
   pub place_within : (at : Option ℕ) → Placed set i at → IfSome at (λ p. p < m)
   place_within (Some q) h = omega (arith, place_inside w whole i l h.0)
   place_within None h = tt
 
-  pub left_whole : (at : Option ℕ) (left : List Ask) (r : ℕ) → LeftOut at level m left r → length left ≡ most_rows
+  pub left_whole : (at : Option ℕ) (left : List A) (r : ℕ) → Vacated none at level m left r → length left ≡ most_rows
   left_whole (Some q) _ _ o = ap length o.1 ∙ length-set level q _ ∙ whole
   left_whole None _ _ o = ap length o.1 ∙ whole
 
-  pub left_few : (at : Option ℕ) (left : List Ask) (r : ℕ) → LeftOut at level m left r → r ≤ most_rows
+  pub left_few : (at : Option ℕ) (left : List A) (r : ℕ) → Vacated none at level m left r → r ≤ most_rows
   left_few (Some q) _ _ o = omega (arith, o.0, w.few)
   left_few None _ _ o = omega (arith, o.0, w.few)
 
@@ -127,13 +125,13 @@ module _ (set : ℕ) {asks before level : List Ask} {m : ℕ} (w : Packed asks (
   absent e = fun_ext (λ j. is_without (marked set) i j (marked set j) (λ q. ap (marked set) q ∙ e) (λ _. refl))
 
   -- the rows that stay are the others
-  pub left_others : (at : Option ℕ) (left : List Ask) (r : ℕ) → Placed set i at → LeftOut at level m left r →
-      Holding asks (without (marked set) i) left r
+  pub left_others : (at : Option ℕ) (left : List A) (r : ℕ) → Placed set i at → Vacated none at level m left r →
+      Holding none asks (without (marked set) i) left r
   left_others (Some q) _ _ h o = rw (o.1, o.0, h.1) (left_holding w whole i l h.0)
   left_others None _ _ h o = rw (o.1, o.0, ← absent h) (packed_holding w)
 
   -- put back, the level is as it was
-  pub back_as_was : (at : Option ℕ) (left back : List Ask) (r : ℕ) → Placed set i at → LeftOut at level m left r →
-      PutBack at (row asks i) left back → back ≡ level
+  pub back_as_was : (at : Option ℕ) (left back : List A) (r : ℕ) → Placed set i at → Vacated none at level m left r →
+      PutBack at (get_or asks i none) left back → back ≡ level
   back_as_was (Some q) _ _ _ h o b = b ∙ rw (o.1, h.1) (back_same w whole i l h.0)
   back_as_was None _ _ _ h o b = b ∙ o.1

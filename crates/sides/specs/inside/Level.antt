@@ -25,7 +25,7 @@ abbrev pub start_of : List Ask → ℕ → ℕ → ℕ
 start_of level base s = base + later level s
 
 -- the first m items of a list are those items of another at which P passes, each at the place that counts those before
--- it; so what is summed over the ones, by place and item, is what is summed over the others. Behind them the list is as
+-- it, and what is summed over the ones, by place and item, is what is summed over the others. Behind them the list is as
 -- before. What stands past an end is `none`.
 pub record Picked {A : Type 0} (none : A) (items : List A) (P : ℕ → Bool) (before list : List A) (m : ℕ) : Type 0 where
   pub few : m ≤ most_rows
